@@ -1,0 +1,9 @@
+pub mod Everything
+pub mod Examples
+pub mod Logic
+pub mod Settle
+pub mod Climbing
+pub mod Reaching
+pub mod Places
+pub mod Relations
+pub mod Verdicts

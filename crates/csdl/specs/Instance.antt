@@ -1,0 +1,161 @@
+-- The instance image: nodes, slots and items, field by field, as the rules see them.
+use Prim.Native.Nat.{ℕ, _+_, _-_, _*_, _/_}
+use mathlib.Core.List.{List}
+use mathlib.Core.Bool.{Bool, true, false, cond, not, _&&_, _||_}
+use lib.ListN.{length}
+use lib.Dec.{eqb, ltb}
+use Rattle.packed.specs.Field.{fieldOf}
+use Rattle.packed.specs.Bytes.{between}
+use Rattle.csdl.specs.Tables.{Run}
+use Rattle.csdl.specs.Image.{header}
+use Rattle.csdl.specs.declared.Part.{Part}
+use Rattle.csdl.specs.declared.Part.the-variants.{OfNode, OfSlot, OfItem, Outside}
+
+-- The size of an item in bytes, and the width of its handle in bits.
+abbrev pub itemBytes : ℕ
+itemBytes = 4
+
+abbrev pub handleBits : ℕ
+handleBits = 24
+
+-- Node, 4 bytes: type 6, first slot 11, count 10, spare 5.
+abbrev pub nodeCount : List ℕ → ℕ
+nodeCount nodes = length nodes / 4
+
+abbrev pub nodeTypeIn : List ℕ → ℕ → ℕ
+nodeTypeIn nodes v = fieldOf nodes (32 * v) 6
+
+abbrev pub nodeSlotsIn : List ℕ → ℕ → Run
+nodeSlotsIn nodes v = record { first = fieldOf nodes (32 * v + 6) 11; count = fieldOf nodes (32 * v + 17) 10 }
+
+abbrev pub nodeSpareIn : List ℕ → ℕ → ℕ
+nodeSpareIn nodes v = fieldOf nodes (32 * v + 27) 5
+
+-- Slot, 5 bytes: property 9, state 2 (0 null, 1 single, 2 collection), first item 12, count 12, spare 5.
+abbrev pub slotCount : List ℕ → ℕ
+slotCount slots = length slots / 5
+
+abbrev pub slotPropertyIn : List ℕ → ℕ → ℕ
+slotPropertyIn slots s = fieldOf slots (40 * s) 9
+
+abbrev pub slotStateIn : List ℕ → ℕ → ℕ
+slotStateIn slots s = fieldOf slots (40 * s + 9) 2
+
+abbrev pub slotItemsIn : List ℕ → ℕ → Run
+slotItemsIn slots s = record { first = fieldOf slots (40 * s + 11) 12; count = fieldOf slots (40 * s + 23) 12 }
+
+abbrev pub slotSpareIn : List ℕ → ℕ → ℕ
+slotSpareIn slots s = fieldOf slots (40 * s + 35) 5
+
+-- Item: type reference 8, handle.
+abbrev pub itemCount : List ℕ → ℕ
+itemCount items = length items / itemBytes
+
+abbrev pub itemRefIn : List ℕ → ℕ → ℕ
+itemRefIn items k = fieldOf items (8 * itemBytes * k) 8
+
+abbrev pub itemHandleIn : List ℕ → ℕ → ℕ
+itemHandleIn items k = fieldOf items (8 * itemBytes * k + 8) handleBits
+
+pub record Instance : Type 0 where
+  pub nodes : ℕ
+  pub slots : ℕ
+  pub items : ℕ
+  -- node: its type and its run of slots
+  pub nodeType : ℕ → ℕ
+  pub nodeSlots : ℕ → Run
+  pub nodeSpare : ℕ → ℕ
+  -- slot: the property, the state, the run of items
+  pub slotProperty : ℕ → ℕ
+  pub state : ℕ → ℕ
+  pub slotItems : ℕ → Run
+  pub slotSpare : ℕ → ℕ
+  -- item: the type reference and the handle
+  pub itemRef : ℕ → ℕ
+  pub itemHandle : ℕ → ℕ
+
+-- The instance in the three tables of an image.
+unfoldable pub instanceOf : List ℕ → List ℕ → List ℕ → Instance
+instanceOf nodes slots items =
+    record {
+      nodes = nodeCount nodes;
+      slots = slotCount slots;
+      items = itemCount items;
+      nodeType = λ v. nodeTypeIn nodes v;
+      nodeSlots = λ v. nodeSlotsIn nodes v;
+      nodeSpare = λ v. nodeSpareIn nodes v;
+      slotProperty = λ s. slotPropertyIn slots s;
+      state = λ s. slotStateIn slots s;
+      slotItems = λ s. slotItemsIn slots s;
+      slotSpare = λ s. slotSpareIn slots s;
+      itemRef = λ k. itemRefIn items k;
+      itemHandle = λ k. itemHandleIn items k;
+    }
+
+-- The header is four 16-bit numbers: version, then the counts of nodes, slots and items. The tables follow in that order.
+abbrev pub slotsFrom : List ℕ → ℕ
+slotsFrom image = 8 + 4 * header image 1
+
+abbrev pub itemsFrom : List ℕ → ℕ
+itemsFrom image = slotsFrom image + 5 * header image 2
+
+abbrev pub instanceEnd : List ℕ → ℕ
+instanceEnd image = itemsFrom image + itemBytes * header image 3
+
+unfoldable pub instanceIn : List ℕ → Instance
+instanceIn image =
+    instanceOf (between image 8 (slotsFrom image)) (between image (slotsFrom image) (itemsFrom image)) (between image (itemsFrom image) (instanceEnd image))
+
+-- Rule 20 (house), of the whole image.
+-- 20a: fewer than 8 bytes.
+abbrev pub image20a : List ℕ → Bool
+image20a image = ltb (length image) 8
+
+-- 20b: the version is not 0402 in hexadecimal.
+abbrev pub image20b : List ℕ → Bool
+image20b image = not (eqb (header image 0) 0x0402)
+
+-- 20c: more than 256 nodes, 1024 slots or 2048 items.
+abbrev pub image20c : List ℕ → Bool
+image20c image = ltb 256 (header image 1) || ltb 1024 (header image 2) || ltb 2048 (header image 3)
+
+-- 20d: the length is not the sum of the header and the tables.
+abbrev pub image20d : List ℕ → Bool
+image20d image = not (eqb (length image) (instanceEnd image))
+
+unfoldable pub image20 : List ℕ → Bool
+image20 image = image20a image || image20b image || image20c image || image20d image
+
+-- Places: nodes, then slots, then items.
+abbrev pub slotsAt : Instance → ℕ
+slotsAt i = i .nodes
+
+abbrev pub itemsAt : Instance → ℕ
+itemsAt i = slotsAt i + i .slots
+
+abbrev pub parts : Instance → ℕ
+parts i = itemsAt i + i .items
+
+unfoldable pub partAt : Instance → ℕ → Part
+partAt i place =
+    cond (ltb place (slotsAt i)) (OfNode place)
+    (cond (ltb place (itemsAt i)) (OfSlot (place - slotsAt i)) (cond (ltb place (parts i)) (OfItem (place - itemsAt i)) Outside))
+
+-- A test of one kind of part, as a test of any.
+abbrev pub onNode : (ℕ → Bool) → Part → Bool
+onNode test (OfNode v) = test v
+onNode test (OfSlot s) = false
+onNode test (OfItem k) = false
+onNode test Outside = false
+
+abbrev pub onSlot : (ℕ → Bool) → Part → Bool
+onSlot test (OfNode v) = false
+onSlot test (OfSlot s) = test s
+onSlot test (OfItem k) = false
+onSlot test Outside = false
+
+abbrev pub onItem : (ℕ → Bool) → Part → Bool
+onItem test (OfNode v) = false
+onItem test (OfSlot s) = false
+onItem test (OfItem k) = test k
+onItem test Outside = false

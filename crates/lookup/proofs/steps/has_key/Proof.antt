@@ -1,0 +1,47 @@
+use Rattle.csdl.specs.Model.{modelOf}
+use Prim.Native.Nat.{_-_, _≤_}
+use mathlib.Core.List.{[]}
+use mathlib.Core.Path.{_≡_}
+use native.Mathlib.Omega.{arith}
+use Rattle.csdl.specs.Tables.{keyOwner}
+use Rattle.csdl.specs.Find.{hasKey, isAt, ancestor}
+use Rattle.lookup.proofs.Loops.{Any, any-start, any-hit, any-next, any-end}
+use borrow.Author.Needs.{needs}
+use Rattle.lookup.proofs.steps.has_key.Statement.{statement}
+use Rattle.lookup.proofs.steps.has_key.Tie as tie
+
+abbrev Inv-loop : tie.InvT-loop
+Inv-loop types keys t n k₀ k = Any (λ j. isAt (modelOf [] types [] [] [] [] [] [] []) (keyOwner keys j) t) n k × (n ≤ 128)
+
+abbrev μ-loop : tie.MeasureT-loop
+μ-loop types keys t n k₀ k = n - k
+
+loop-holds : tie.Need-loop-holds Inv-loop μ-loop
+loop-holds c = (any-start _ _, search needs)
+
+returns : tie.Need-returns Inv-loop μ-loop
+unfolding modelOf hasKey isAt ancestor
+returns c = rw (← c .before .before .before .before .before .key-count .ensures .0) (any-hit _ _ _ _ (c .before .before .before .before .loop .inv .0) (c .before .before .before .loop-test .taken) (rw (← c .before .before .key-owner .ensures .0) (c .before .is-at .ensures)) (c .if1 .taken))
+
+loop-again : tie.Need-loop-again Inv-loop μ-loop
+loop-again c = (any-next _ _ _ _ (c .before .before .before .before .loop .inv .0) (c .before .before .before .loop-test .taken) (rw (← c .before .before .key-owner .ensures .0) (c .before .is-at .ensures)) (c .if1 .left), search needs)
+
+returns-2 : tie.Need-returns-2 Inv-loop μ-loop
+unfolding modelOf hasKey isAt ancestor
+returns-2 c = rw (← c .before .before .key-count .ensures .0) (any-end _ _ _ (c .before .loop .inv .0) (omega arith))
+
+pub has-key-spec : {M : Type 1} → statement M
+has-key-spec =
+    tie.close
+    (tie.spec
+    Inv-loop
+    μ-loop
+    (λ c κs. search needs)
+    loop-holds
+    (λ c κs. search needs)
+    (λ c κs. search needs)
+    returns
+    (λ c. search needs)
+    (λ c. search needs)
+    loop-again
+    returns-2)

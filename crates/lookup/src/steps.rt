@@ -1,0 +1,53 @@
+// Steps along properties, and keys.
+ghost use mathlib.Core.Path.{_≡_};
+ghost use mathlib.Core.List.{[]};
+ghost use Prim.Native.Nat.{_≤_};
+ghost use lib.ListN.{length};
+ghost use Rattle.csdl.specs.Model.{modelOf};
+ghost use Rattle.csdl.specs.Find as find;
+use crate::bases::is_at;
+use crate::kinds::of_kind;
+use records::keys::key_count;
+use records::keys::key_owner;
+use records::properties::property_contains;
+use records::properties::property_navigation;
+use records::properties::property_type_ref;
+
+// Whether p is a structural property of a complex type.
+pub fn complex_step(types: &[u8], properties: &[u8], p: u16) -> bool
+    requires { ⌜ length (now types) ≤ 384 ⌝ }
+    ensures { λ r. ⌜ r ≡ find.complexStep (modelOf [] (now (types .entry)) (now (properties .entry)) [] [] [] [] [] []) p ⌝ }
+{
+    !property_navigation(properties, p) & of_kind(types, 1, property_type_ref(properties, p))
+}
+
+// Whether p is a navigation property that contains.
+pub fn contain_step(properties: &[u8], p: u16) -> bool
+    ensures { λ r. ⌜ r ≡ find.containStep (modelOf [] [] (now (properties .entry)) [] [] [] [] [] []) p ⌝ }
+{
+    property_navigation(properties, p) & property_contains(properties, p)
+}
+
+// Whether the items of p are integral.
+pub fn integral(types: &[u8], properties: &[u8], p: u16) -> bool
+    requires { ⌜ length (now types) ≤ 384 ⌝ }
+    ensures { λ r. ⌜ r ≡ find.integral (modelOf [] (now (types .entry)) (now (properties .entry)) [] [] [] [] [] []) p ⌝ }
+{
+    complex_step(types, properties, p) | contain_step(properties, p)
+}
+
+// Whether t or one of its ancestors has a key.
+pub fn has_key(types: &[u8], keys: &[u8], t: u16) -> bool
+    requires { ⌜ (length (now types) ≤ 384) × (length (now keys) ≤ 768) ⌝ }
+    ensures { λ r. ⌜ r ≡ find.hasKey (modelOf [] (now (types .entry)) [] (now (keys .entry)) [] [] [] [] []) t ⌝ }
+{
+    let n = key_count(keys);
+    let mut k: u16 = 0;
+    while k < n {
+        if is_at(types, key_owner(keys, k), t) {
+            return true;
+        }
+        k += 1;
+    }
+    false
+}

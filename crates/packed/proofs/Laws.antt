@@ -1,0 +1,194 @@
+-- Laws of packed fields, of parts, of equal byte strings and of the two bytes of a number. Assumes nothing.
+use mathlib.Core.Path.{_≡_, refl, sym, ap, _∙_}
+use mathlib.Core.List.{List, [], _∷_}
+use mathlib.Core.Bool.{Bool, true, false, _&&_, and-false, false≢true}
+use Prim.Native.Nat.{ℕ, zero, suc, _+_, _-_, _*_, _/_, _%_, _^_, _≤_, _<_}
+use native.Mathlib.Nat.{add-zero, add-suc, add-assoc, mul-one, one-mul, mul-assoc, pow-zero, pow-suc, mod-one, mod-eq-of-lt, div-one}
+use native.Mathlib.Numerals.{add-one}
+use native.Mathlib.Omega.{arith}
+use lib.Dec.{eqb, eqb·zero-suc, eqb·suc-zero, eqb·suc-suc}
+use lib.ListN.{length, getD, take, drop, length-drop, drop-of-length-le}
+use lib.Seq.{getD-take, getD-drop, drop-cons, take-all, take-nil}
+use lib.Pow.{mod-pow-add, shr-shr, shl-exact}
+use borrow.Author.Tests.{eqb-true, eqb-false, eq-eqb, ne-eqb}
+use Rattle.packed.specs.Field.{bit, fieldOf, flagOf}
+use Rattle.packed.specs.Bytes.{same, part, highByte, lowByte}
+
+-- ---- fields
+pub bit-lt : (s : List ℕ) (k : ℕ) → bit s k < 2
+unfolding bit
+bit-lt s k = omega arith
+
+pub field-zero : (s : List ℕ) (off : ℕ) → fieldOf s off 0 ≡ 0
+unfolding fieldOf
+field-zero s off = refl
+
+pub field-suc : (s : List ℕ) (off w : ℕ) → fieldOf s off (suc w) ≡ fieldOf s off w * 2 + bit s (off + w)
+unfolding fieldOf
+field-suc s off w = refl
+
+pub field-lt : (s : List ℕ) (off w : ℕ) → fieldOf s off w < 2 ^ w
+field-lt s off zero = rw (field-zero, pow-zero) (omega arith)
+field-lt s off (suc w) = rw (field-suc, pow-suc) (omega (arith, field-lt s off w, bit-lt s (off + w)))
+
+-- a field of w + n bits is one of w bits and then one of n
+pub field-add : (s : List ℕ) (off w n : ℕ) → fieldOf s off (w + n) ≡ fieldOf s off w * 2 ^ n + fieldOf s (off + w) n
+field-add s off w zero = simp (add-zero, pow-zero, mul-one, field-zero)
+field-add s off w (suc n) =
+    rw (add-suc, field-suc s off (w + n), field-suc s (off + w) n, pow-suc, ← mul-assoc, add-assoc off w n)
+    (omega (arith, field-add s off w n))
+
+-- the bit n places on, in the same byte, with m bits after it
+bit-byte : (s : List ℕ) (off n m : ℕ) → off % 8 + n + m ≡ 7 → bit s (off + n) ≡ getD s (off / 8) 0 / 2 ^ m % 2
+unfolding bit
+bit-byte s off n m h =
+    let d : (off + n) / 8 ≡ off / 8 = omega arith in
+    let e : 7 - (off + n) % 8 ≡ m = omega arith in
+    rw (d, e)
+
+-- a field within one byte, with m bits after it
+pub field-byte : (s : List ℕ) (off n m : ℕ) → off % 8 + n + m ≡ 8 → fieldOf s off n ≡ getD s (off / 8) 0 / 2 ^ m % 2 ^ n
+field-byte s off zero m h = simp (field-zero, pow-zero, mod-one)
+field-byte s off (suc n) m h =
+    let x = getD s (off / 8) 0 in
+    let i : fieldOf s off n ≡ x / 2 ^ (m + 1) % 2 ^ n = field-byte s off n (m + 1) (omega arith) in
+    let b : bit s (off + n) ≡ x / 2 ^ m % 2 = bit-byte s off n m (omega arith) in
+    rw (field-suc, i, b, ← shr-shr, ← add-one n, mod-pow-add)
+
+-- n bits more, of the byte at bit `off + w`, which has m bits after them
+pub field-more : (s : List ℕ) (off w n m : ℕ) → (off + w) % 8 + n + m ≡ 8
+    → fieldOf s off w * 2 ^ n + getD s ((off + w) / 8) 0 / 2 ^ m % 2 ^ n ≡ fieldOf s off (w + n)
+field-more s off w n m h = rw (field-add, field-byte s (off + w) n m h)
+
+-- a field of the part of n bytes from byte a on
+bit-part : (s : List ℕ) (a n k : ℕ) → k < 8 * n → bit (part s a n) k ≡ bit s (8 * a + k)
+unfolding bit
+bit-part s a n k h =
+    let i : k / 8 < n = omega arith in
+    let d : (8 * a + k) / 8 ≡ a + k / 8 = omega arith in
+    let m : (8 * a + k) % 8 ≡ k % 8 = omega arith in
+    rw (d, m, getD-take n (drop a s) (k / 8) 0 i, getD-drop)
+
+pub field-part : (s : List ℕ) (a n off w : ℕ) → off + w ≤ 8 * n → fieldOf (part s a n) off w ≡ fieldOf s (8 * a + off) w
+field-part s a n off zero h = simp field-zero
+field-part s a n off (suc w) h =
+    rw (field-suc (part s a n) off w, field-suc s, field-part s a n off w (omega arith), bit-part s a n (off + w) (omega arith), add-assoc (8 * a) off w)
+
+-- whole bytes
+pub field-8 : (s : List ℕ) (k : ℕ) → getD s k 0 < 256 → fieldOf s (8 * k) 8 ≡ getD s k 0
+field-8 s k h =
+    let d : 8 * k / 8 ≡ k = omega arith in
+    rw (field-byte s (8 * k) 8 0 (omega arith), d, pow-zero, div-one) (mod-eq-of-lt h)
+
+pub field-16 : (s : List ℕ) (k : ℕ) → getD s k 0 < 256 → getD s (k + 1) 0 < 256 → fieldOf s (8 * k) 16 ≡ getD s k 0 * 256 + getD s (k + 1) 0
+field-16 s k h j =
+    let e : 8 * k + 8 ≡ 8 * (k + 1) = omega arith in
+    rw (field-add s (8 * k) 8 8, e, field-8 s k h, field-8 s (k + 1) j)
+
+-- ---- flags
+module _ (s : List ℕ) (off : ℕ) where
+  pub flag-true : flagOf s off ≡ true → fieldOf s off 1 ≡ 1
+  unfolding flagOf
+  flag-true = eqb-true (fieldOf s off 1) 1
+
+  pub flag-false : flagOf s off ≡ false → fieldOf s off 1 ≡ 0
+  unfolding flagOf
+  flag-false h =
+      let n : fieldOf s off 1 ≡ 1 → ⊥ = eqb-false (fieldOf s off 1) 1 h in
+      omega (arith, n, field-lt s off 1)
+
+  pub flag-set : fieldOf s off 1 ≡ 1 → flagOf s off ≡ true
+  unfolding flagOf
+  flag-set = eq-eqb (fieldOf s off 1) 1
+
+  pub flag-clear : fieldOf s off 1 ≡ 0 → flagOf s off ≡ false
+  unfolding flagOf
+  flag-clear h = rw h
+
+-- `1 << n`
+pub one-shl : (n : ℕ) → n < 64 → 1 * 2 ^ n % 2 ^ 64 ≡ 2 ^ n
+one-shl n h = shl-exact 1 n 64 (omega arith) (omega arith) ∙ one-mul (2 ^ n)
+
+-- ---- a part, as the code makes it
+module _ (s : List ℕ) (start len : ℕ) where
+  pub part-none : length s ≤ start → [] ≡ part s start len
+  part-none h = rw (drop-of-length-le s {i = start} h, take-nil)
+
+  pub part-rest : length s ≤ start + len → take (length s - start) (drop start s) ≡ part s start len
+  part-rest h =
+      let p : length (drop start s) ≤ length s - start = simp length-drop (omega arith) in
+      let q : length (drop start s) ≤ len = simp length-drop (omega arith) in
+      take-all _ _ p ∙ sym (take-all _ _ q)
+
+  pub part-whole : take (start + len - start) (drop start s) ≡ part s start len
+  part-whole = let e : start + len - start ≡ len = omega arith in rw e
+
+-- ---- equal byte strings
+pub same-refl : (a : List ℕ) → same a a ≡ true
+unfolding same
+same-refl [] = refl
+same-refl (x ∷ a) = rw (eq-eqb x x refl, same-refl a)
+
+pub same-complete : (a b : List ℕ) → a ≡ b → same a b ≡ true
+same-complete a b e = rw e (same-refl b)
+
+both : (p q : Bool) → (p && q) ≡ true → (p ≡ true) × (q ≡ true)
+both true q h = (refl, h)
+both false q h = absurd (false≢true h)
+
+pub same-sound : (a b : List ℕ) → same a b ≡ true → a ≡ b
+unfolding same
+same-sound [] [] h = refl
+same-sound [] (y ∷ b) h = absurd (false≢true h)
+same-sound (x ∷ a) [] h = absurd (false≢true h)
+same-sound (x ∷ a) (y ∷ b) h =
+    let p = both (eqb x y) (same a b) h in
+    rw (eqb-true x y (p .0), same-sound a b (p .1))
+
+eqb-sym : (x y : ℕ) → eqb x y ≡ eqb y x
+eqb-sym zero zero = refl
+eqb-sym zero (suc y) = eqb·zero-suc y ∙ sym (eqb·suc-zero y)
+eqb-sym (suc x) zero = eqb·suc-zero x ∙ sym (eqb·zero-suc x)
+eqb-sym (suc x) (suc y) = eqb·suc-suc x y ∙ eqb-sym x y ∙ sym (eqb·suc-suc y x)
+
+pub same-sym : (a b : List ℕ) → same a b ≡ same b a
+unfolding same
+same-sym [] [] = refl
+same-sym [] (y ∷ b) = refl
+same-sym (x ∷ a) [] = refl
+same-sym (x ∷ a) (y ∷ b) = rw (eqb-sym x y, same-sym a b)
+
+-- strings of other lengths differ
+pub same-lengths : (a b : List ℕ) → (length a ≡ length b → ⊥) → same a b ≡ false
+unfolding same
+same-lengths [] [] h = absurd (h refl)
+same-lengths [] (y ∷ b) h = refl
+same-lengths (x ∷ a) [] h = refl
+same-lengths (x ∷ a) (y ∷ b) h = rw (same-lengths a b (λ e. h (ap suc e)), and-false)
+
+-- strings compared from the front, at byte i
+module _ (a b : List ℕ) (i : ℕ) (e : length a ≡ length b) where
+  same-at : i < length a → same (drop i a) (drop i b) ≡ (eqb (getD a i 0) (getD b i 0) && same (drop (i + 1) a) (drop (i + 1) b))
+  unfolding same
+  same-at h = rw (add-one, drop-cons a i 0 h, drop-cons b i 0 (omega arith))
+
+  pub same-step : i < length a → getD a i 0 ≡ getD b i 0 → same (drop i a) (drop i b) ≡ same (drop (i + 1) a) (drop (i + 1) b)
+  same-step h q = rw (same-at h, eq-eqb _ _ q)
+
+  pub same-differ : i < length a → (getD a i 0 ≡ getD b i 0 → ⊥) → same (drop i a) (drop i b) ≡ false
+  same-differ h q = rw (same-at h, ne-eqb _ _ q)
+
+  pub same-end : length a ≤ i → same (drop i a) (drop i b) ≡ true
+  unfolding same
+  same-end h = rw (drop-of-length-le a {i = i} h, drop-of-length-le b {i = i} (omega arith))
+
+-- ---- the two bytes of a 16-bit number
+module _ (n : ℕ) where
+  pub two-bytes : highByte n * 256 + lowByte n ≡ n
+  two-bytes = omega arith
+
+  pub high-lt : n < 65536 → highByte n < 256
+  high-lt h = omega arith
+
+  pub low-lt : lowByte n < 256
+  low-lt = omega arith

@@ -1,0 +1,125 @@
+// Packed fields and byte strings. The reader goes by shifts and masks; each stands in a small function whose contract is in / and %.
+ghost use mathlib.Core.Path.{_≡_};
+ghost use Prim.Native.Nat.{min, _+_, _*_, _/_, _%_, _^_, _≤_, _<_};
+ghost use lib.ListN.{getD};
+ghost use Rattle.packed.specs.Field.{fieldOf, flagOf};
+ghost use Rattle.packed.specs.Bytes.{same, part, highByte, lowByte};
+
+fn least(a: usize, b: usize) -> usize
+    ensures { λ r. ⌜ r ≡ min a b ⌝ }
+{
+    if a < b { a } else { b }
+}
+
+// Byte i, or 0 past the end.
+fn byte_at(s: &[u8], i: usize) -> u64
+    ensures { λ r. ⌜ (r ≡ getD (now (s .entry)) i 0) × (r < 256) ⌝ }
+{
+    if i < s.len() { s[i] as u64 } else { 0 }
+}
+
+// The place of bit k in its byte.
+fn in_byte(k: usize) -> usize
+    ensures { λ r. ⌜ r ≡ k % 8 ⌝ }
+{
+    k & 7
+}
+
+// The n low bits of x.
+fn low_bits(x: u64, n: usize) -> u64
+    requires { ⌜ n ≤ 8 ⌝ }
+    ensures { λ r. ⌜ (r ≡ x % 2 ^ n) × (r < 2 ^ n) ⌝ }
+{
+    x & ((1 << n) - 1)
+}
+
+// `lo`, of n bits, behind `hi`, of k bits.
+fn joined(hi: u64, lo: u64, k: usize, n: usize) -> u64
+    requires { ⌜ (n ≤ 8) × (k + n ≤ 64) × (hi < 2 ^ k) × (lo < 2 ^ n) ⌝ }
+    ensures { λ r. ⌜ r ≡ hi * 2 ^ n + lo ⌝ }
+{
+    (hi << n) | lo
+}
+
+// The number made of the `width` bits of s from bit `off` on, most significant first. Bits past the end are 0.
+pub fn field(s: &[u8], off: u32, width: u32) -> u64
+    requires { ⌜ width ≤ 64 ⌝ }
+    ensures { λ r. ⌜ r ≡ fieldOf (now (s .entry)) off width ⌝ }
+    ensures { λ r. ⌜ r < 2 ^ width ⌝ }
+{
+    let from = off as usize;
+    let all = width as usize;
+    let mut r: u64 = 0;
+    let mut done: usize = 0;
+    while done < all {
+        let at = from + done;
+        let room = 8 - in_byte(at);
+        let n = least(room, all - done);
+        let bits = low_bits(byte_at(s, at >> 3) >> (room - n), n);
+        r = joined(r, bits, done, n);
+        done += n;
+    }
+    r
+}
+
+// A field of at most 16 bits.
+pub fn field16(s: &[u8], off: u32, width: u32) -> u16
+    requires { ⌜ width ≤ 16 ⌝ }
+    ensures { λ r. ⌜ r ≡ fieldOf (now (s .entry)) off width ⌝ }
+    ensures { λ r. ⌜ r < 2 ^ width ⌝ }
+{
+    field(s, off, width) as u16
+}
+
+// Whether bit `off` is set.
+pub fn flag(s: &[u8], off: u32) -> bool
+    ensures { λ r. ⌜ r ≡ flagOf (now (s .entry)) off ⌝ }
+{
+    field(s, off, 1) == 1
+}
+
+// Whether two byte strings are equal.
+pub fn same_bytes(a: &[u8], b: &[u8]) -> bool
+    ensures { λ r. ⌜ r ≡ same (now (a .entry)) (now (b .entry)) ⌝ }
+{
+    if a.len() != b.len() {
+        return false;
+    }
+    let mut i: usize = 0;
+    while i < a.len() {
+        if a[i] != b[i] {
+            return false;
+        }
+        i += 1;
+    }
+    true
+}
+
+// The `len` bytes from byte `start` on, or as many as there are.
+pub fn part_of(s: &[u8], start: u16, len: u16) -> &[u8]
+    ensures { λ r. ⌜ now r ≡ part (now (s .entry)) start len ⌝ }
+{
+    let a = start as usize;
+    if s.len() <= a {
+        return &s[..0];
+    }
+    let e = a + len as usize;
+    if s.len() <= e {
+        return &s[a..];
+    }
+    &s[a..e]
+}
+
+// The high byte of a 16-bit number.
+pub fn high_byte(x: u16) -> u8
+    ensures { λ r. ⌜ r ≡ highByte x ⌝ }
+{
+    (x / 256) as u8
+}
+
+// The low byte of a 16-bit number.
+pub fn low_byte(x: u16) -> u8
+    ensures { λ r. ⌜ r ≡ lowByte x ⌝ }
+{
+    (x % 256) as u8
+}
