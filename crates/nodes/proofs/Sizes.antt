@@ -1,11 +1,11 @@
 -- What an instance image that keeps rule 20 is like: its length, its counts, its three parts. Assumes nothing.
 use mathlib.Core.Path.{_≡_, refl}
 use mathlib.Core.List.{List}
-use mathlib.Core.Bool.{Bool, true, false, _||_, not}
-use Prim.Native.Nat.{ℕ, _+_, _-_, _*_, _≤_, min}
+use mathlib.Core.Bool.{Bool, true, false, _||_}
+use Prim.Native.Nat.{ℕ, _+_, _-_, _*_, _≤_}
 use native.Mathlib.Omega.{arith}
-use lib.Dec.{eqb, ltb}
-use lib.ListN.{length, take, drop, length-take, length-drop}
+use lib.Dec.{ltb}
+use lib.ListN.{length, length-take, length-drop}
 use borrow.Author.Tests.{ltb-false, not-false, eqb-true}
 use Rattle.packed.specs.Bytes.{between}
 use Rattle.csdl.specs.Image.{header}

@@ -1,0 +1,4 @@
+pub mod Comparing
+pub mod LastName
+pub mod PartnerPaths
+pub mod BindingPaths

@@ -1,0 +1,30 @@
+-- Rule 19, of the codes of a binding's paths.
+use Prim.Native.Nat.{ℕ, _-_}
+use mathlib.Core.List.{List}
+use mathlib.Core.Bool.{Bool, true, cond, not, _&&_, _||_}
+use lib.Dec.{eqb}
+use lib.ListN.{getD}
+use Rattle.csdl.specs.Search.{anyFrom}
+use Rattle.csdl.specs.Model.{Model}
+use Rattle.csdl.specs.Find.{isAt}
+use Rattle.csdl.specs.Path.{segmentsOf, sameSegments}
+use Rattle.csdl.specs.Paths.{crosses}
+use Rattle.trail.specs.Trail.{castCode, lastName, formOf}
+use Rattle.paths.specs.declared.steps.StepTest.the-variants.{NoTargetStep, NoContainment}
+use Rattle.paths.specs.Steps.{stepOrEnd}
+
+-- 19a to 19c, of the n codes of a path.
+unfoldable pub bindingCodes : Model → List ℕ → ℕ → Bool
+bindingCodes m codes n = formOf (λ p. crosses m p) (λ p. crosses m p) codes (lastName codes n)
+
+-- 19d, of two bindings: the same child and the same segments.
+unfoldable pub againBound : Model → ℕ → ℕ → Bool
+againBound m j b = eqb (m .bindingChild j) (m .bindingChild b) && sameSegments (segmentsOf m (m .bindingPath j)) (segmentsOf m (m .bindingPath b))
+
+-- 19f, 19g, of the n codes of a target path.
+unfoldable pub targetCodes : Model → List ℕ → ℕ → Bool
+targetCodes m codes n = anyFrom (λ k. castCode (getD codes k 0)) 0 n || stepOrEnd m NoTargetStep NoContainment codes n
+
+-- 19h, of the types at the ends of the two paths.
+unfoldable pub endsApart : Model → ℕ → ℕ → Bool
+endsApart m a b = not (isAt m a b) && not (isAt m b a)

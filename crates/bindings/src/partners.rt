@@ -1,0 +1,191 @@
+// Rule 17: partners.
+ghost use mathlib.Core.Path.{_≡_};
+ghost use mathlib.Core.List.{[]};
+ghost use mathlib.Core.Bool.{Bool, not, _&&_};
+ghost use Prim.Native.Nat.{ℕ, _≤_, _<_};
+ghost use lib.ListN.{length};
+ghost use lib.Dec.{eqb};
+ghost use Rattle.csdl.specs.Tables.{propertyPartner};
+ghost use Rattle.csdl.specs.Model.{modelOf, present};
+ghost use Rattle.csdl.specs.Path.{pathSteps, isProperty};
+ghost use Rattle.csdl.specs.Path.Kind.{partner};
+ghost use Rattle.csdl.specs.Paths.{lastStep, otherContained, property17};
+ghost use Rattle.trail.specs.Trail.{isCode};
+ghost use Rattle.bindings.specs.Partners.{partnerCodes, otherPartner, containedPartner, sharedContainment, partnerEnds};
+use lookup::bases::is_at;
+use lookup::bases::top;
+use paths::steps::StepTest;
+use paths::steps::any_code;
+use paths::steps::code_test;
+use paths::steps::less_one;
+use paths::steps::number_of;
+use records::properties::property_contains;
+use records::properties::property_count;
+use records::properties::property_nullable;
+use records::properties::property_owner;
+use records::properties::property_partner;
+use records::properties::property_type_ref;
+use trail::codes::last_code;
+use trail::resolve::trail_of;
+
+// The code of the last step of the partner path of p; that of a cast where it has none.
+fn partner_code(types: &[u8], properties: &[u8], segments: &[u8], names: &[u8], p: u16) -> u32
+    requires { ⌜ (length (now types) ≤ 384) × (length (now properties) ≤ 3584) ⌝ }
+    ensures { λ r. ⌜ ((test : ℕ → Bool) → isCode test r ≡ isProperty test (lastStep (pathSteps (modelOf [] (now (types .entry)) (now (properties .entry)) [] [] [] [] (now (segments .entry)) (now (names .entry))) partner p))) ⌝ }
+{
+    let run = property_partner(properties, p);
+    let first = run.first;
+    let n = run.count;
+    let start = property_type_ref(properties, p);
+    let trail = trail_of(types, properties, segments, names, start, first, n);
+    let codes = trail.codes;
+    last_code(&codes, n)
+}
+
+// Whether the partner path ends in no navigation property, or goes through one (17a, 17b).
+fn partner_codes(types: &[u8], properties: &[u8], codes: &[u32], n: u16) -> bool
+    requires { ⌜ (length (now types) ≤ 384) × (length (now codes) ≡ 16) × (n < 16) ⌝ }
+    ensures { λ r. ⌜ r ≡ partnerCodes (modelOf [] (now (types .entry)) (now (properties .entry)) [] [] [] [] [] []) (now (codes .entry)) n ⌝ }
+{
+    !code_test(types, properties, StepTest::Navigates, last_code(codes, n))
+        | any_code(types, properties, StepTest::Navigates, codes, less_one(n))
+}
+
+// Whether q has a partner other than p (17d).
+fn other_partner(
+    types: &[u8],
+    properties: &[u8],
+    segments: &[u8],
+    names: &[u8],
+    p: u16,
+    q: u16,
+) -> bool
+    requires { ⌜ (length (now types) ≤ 384) × (length (now properties) ≤ 3584) ⌝ }
+    ensures { λ r. ⌜ r ≡ otherPartner (modelOf [] (now (types .entry)) (now (properties .entry)) [] [] [] [] (now (segments .entry)) (now (names .entry))) p q ⌝ }
+{
+    let run = property_partner(properties, q);
+    if run.count == 0 {
+        return false;
+    }
+    let code = partner_code(types, properties, segments, names, q);
+    !((code < 32768) & (code == p as u32))
+}
+
+// Whether p contains, and q is not nullable within one hierarchy or nullable across two (17e).
+fn contained_partner(types: &[u8], properties: &[u8], p: u16, q: u16) -> bool
+    requires { ⌜ length (now types) ≤ 384 ⌝ }
+    ensures { λ r. ⌜ r ≡ containedPartner (modelOf [] (now (types .entry)) (now (properties .entry)) [] [] [] [] [] []) p q ⌝ }
+{
+    if !property_contains(properties, p) {
+        return false;
+    }
+    let nullable = property_nullable(properties, q);
+    if top(types, property_owner(properties, p)) == top(types, property_type_ref(properties, p)) {
+        return !nullable;
+    }
+    nullable
+}
+
+// Whether q is another property than p, and has a partner.
+fn other_with_partner(properties: &[u8], p: u16, q: u16) -> bool
+    ensures { λ r. ⌜ r ≡ (not (eqb q p) && present (propertyPartner (now (properties .entry)) q)) ⌝ }
+{
+    let run = property_partner(properties, q);
+    (q != p) & (run.count != 0)
+}
+
+// Whether q is another property of p's owner or an ancestor whose partner contains.
+fn other_contained(
+    types: &[u8],
+    properties: &[u8],
+    segments: &[u8],
+    names: &[u8],
+    p: u16,
+    q: u16,
+) -> bool
+    requires { ⌜ (length (now types) ≤ 384) × (length (now properties) ≤ 3584) ⌝ }
+    ensures { λ r. ⌜ r ≡ otherContained (modelOf [] (now (types .entry)) (now (properties .entry)) [] [] [] [] (now (segments .entry)) (now (names .entry))) p q ⌝ }
+{
+    if !other_with_partner(properties, p, q) {
+        return false;
+    }
+    if !is_at(
+        types,
+        property_owner(properties, q),
+        property_owner(properties, p),
+    ) {
+        return false;
+    }
+    let code = partner_code(types, properties, segments, names, q);
+    if code >= 32768 {
+        return false;
+    }
+    property_contains(properties, code as u16)
+}
+
+// Whether q contains, as does the partner of another property of p's owner or an ancestor (17f).
+fn shared_containment(
+    types: &[u8],
+    properties: &[u8],
+    segments: &[u8],
+    names: &[u8],
+    p: u16,
+    q: u16,
+) -> bool
+    requires { ⌜ (length (now types) ≤ 384) × (length (now properties) ≤ 3584) ⌝ }
+    ensures { λ r. ⌜ r ≡ sharedContainment (modelOf [] (now (types .entry)) (now (properties .entry)) [] [] [] [] (now (segments .entry)) (now (names .entry))) p q ⌝ }
+{
+    if !property_contains(properties, q) {
+        return false;
+    }
+    let n = property_count(properties);
+    let mut x: u16 = 0;
+    while x < n {
+        if other_contained(types, properties, segments, names, p, x) {
+            return true;
+        }
+        x += 1;
+    }
+    false
+}
+
+// Whether p and the property q that its partner path leads to break rule 17 (17c to 17f).
+fn partner_ends(
+    types: &[u8],
+    properties: &[u8],
+    segments: &[u8],
+    names: &[u8],
+    p: u16,
+    q: u16,
+) -> bool
+    requires { ⌜ (length (now types) ≤ 384) × (length (now properties) ≤ 3584) ⌝ }
+    ensures { λ r. ⌜ r ≡ partnerEnds (modelOf [] (now (types .entry)) (now (properties .entry)) [] [] [] [] (now (segments .entry)) (now (names .entry))) p q ⌝ }
+{
+    !is_at(
+        types,
+        property_type_ref(properties, q),
+        property_owner(properties, p),
+    )
+        | other_partner(types, properties, segments, names, p, q)
+        | contained_partner(types, properties, p, q)
+        | shared_containment(types, properties, segments, names, p, q)
+}
+
+// Whether property p breaks rule 17.
+pub fn property_17(types: &[u8], properties: &[u8], segments: &[u8], names: &[u8], p: u16) -> bool
+    requires { ⌜ (length (now types) ≤ 384) × (length (now properties) ≤ 3584) ⌝ }
+    ensures { λ r. ⌜ r ≡ property17 (modelOf [] (now (types .entry)) (now (properties .entry)) [] [] [] [] (now (segments .entry)) (now (names .entry))) p ⌝ }
+{
+    let run = property_partner(properties, p);
+    let first = run.first;
+    let n = run.count;
+    if n == 0 {
+        return false;
+    }
+    let start = property_type_ref(properties, p);
+    let trail = trail_of(types, properties, segments, names, start, first, n);
+    let codes = trail.codes;
+    let q = number_of(last_code(&codes, n));
+    partner_codes(types, properties, &codes, n)
+        | partner_ends(types, properties, segments, names, p, q)
+}

@@ -1,0 +1,6 @@
+pub mod Fills
+pub mod Counts
+pub mod Named
+pub mod Frames
+pub mod Places
+pub mod Anys

@@ -1,0 +1,51 @@
+-- What a function of this crate says of the tables that it was handed holds of the whole model. Assumes nothing.
+use mathlib.Core.Path.{_≡_, refl}
+use mathlib.Core.List.{List, []}
+use Prim.Native.Nat.{ℕ}
+use Rattle.csdl.specs.declared.Record.{Record}
+use Rattle.csdl.specs.declared.Record.the-variants.{OfSchema, OfType, OfProperty, OfKey, OfConstraint, OfChild, OfBinding, OfSegment, Nowhere}
+use Rattle.csdl.specs.Model.{modelOf, recordAt}
+use Rattle.csdl.specs.Form.{rule3, rule5, rule6, rule7, name5a, alias5a, namespace5b, schema6, sharesName, namesSchema, type7a, sameType, child7b}
+
+module _ (schemas types properties keys constraints children bindings segments names : List ℕ) where
+  pub record-at-frame : (place : ℕ)
+      → recordAt (modelOf schemas types properties keys constraints children bindings segments []) place
+      ≡ recordAt (modelOf schemas types properties keys constraints children bindings segments names) place
+  unfolding recordAt modelOf
+  record-at-frame place = refl
+
+  pub rule-3-frame : (r : Record) → rule3 (modelOf [] types properties keys constraints children bindings segments []) r
+      ≡ rule3 (modelOf schemas types properties keys constraints children bindings segments names) r
+  unfolding rule3 modelOf
+  rule-3-frame (OfSchema s) = refl
+  rule-3-frame (OfType t) = refl
+  rule-3-frame (OfProperty p) = refl
+  rule-3-frame (OfKey k) = refl
+  rule-3-frame (OfConstraint c) = refl
+  rule-3-frame (OfChild h) = refl
+  rule-3-frame (OfBinding b) = refl
+  rule-3-frame (OfSegment g) = refl
+  rule-3-frame Nowhere = refl
+
+  pub rule-5-frame : (r : Record) → rule5 (modelOf schemas types properties keys [] children [] segments names) r
+      ≡ rule5 (modelOf schemas types properties keys constraints children bindings segments names) r
+  unfolding rule5 name5a alias5a namespace5b modelOf
+  rule-5-frame (OfSchema s) = refl
+  rule-5-frame (OfType t) = refl
+  rule-5-frame (OfProperty p) = refl
+  rule-5-frame (OfKey k) = refl
+  rule-5-frame (OfConstraint c) = refl
+  rule-5-frame (OfChild h) = refl
+  rule-5-frame (OfBinding b) = refl
+  rule-5-frame (OfSegment g) = refl
+  rule-5-frame Nowhere = refl
+
+  pub rule-6-frame : (r : Record) → rule6 (modelOf schemas [] [] [] [] [] [] [] names) r
+      ≡ rule6 (modelOf schemas types properties keys constraints children bindings segments names) r
+  unfolding schema6 sharesName namesSchema modelOf
+  rule-6-frame r = refl
+
+  pub rule-7-frame : (r : Record) → rule7 (modelOf [] types [] [] [] children [] [] names) r
+      ≡ rule7 (modelOf schemas types properties keys constraints children bindings segments names) r
+  unfolding rule7 type7a sameType child7b modelOf
+  rule-7-frame r = refl

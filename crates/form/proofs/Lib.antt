@@ -1,0 +1,5 @@
+pub mod Any
+pub mod Chain
+pub mod Dots
+pub mod Frame
+pub mod Parts

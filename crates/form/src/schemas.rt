@@ -1,0 +1,98 @@
+// Rule 6: namespaces and aliases of schemas.
+ghost use mathlib.Core.Path.{_≡_};
+ghost use mathlib.Core.List.{[]};
+ghost use mathlib.Core.Bool.{_||_};
+ghost use Rattle.csdl.specs.Search.{anyFrom};
+ghost use Rattle.csdl.specs.Model.{modelOf};
+ghost use Rattle.csdl.specs.Form as rules;
+use csdl::Record;
+use packed::same_bytes;
+use records::fields::text_of;
+use records::schemas::schema_alias;
+use records::schemas::schema_namespace;
+
+// One of the four reserved names.
+pub fn is_reserved(s: &[u8]) -> bool
+    ensures { λ r. ⌜ r ≡ rules.reserved (now (s .entry)) ⌝ }
+{
+    same_bytes(s, b"Edm")
+        | same_bytes(s, b"odata")
+        | same_bytes(s, b"System")
+        | same_bytes(s, b"Transient")
+}
+
+// Whether the bytes are the namespace or the alias of schema j.
+fn names_schema(schemas: &[u8], names: &[u8], s: &[u8], j: u16) -> bool
+    ensures { λ r. ⌜ r ≡ rules.namesSchema (modelOf (now (schemas .entry)) [] [] [] [] [] [] [] (now (names .entry))) (now (s .entry)) j ⌝ }
+{
+    let alias = schema_alias(schemas, j);
+    let size = alias.size;
+    same_bytes(s, text_of(names, schema_namespace(schemas, j)))
+        | ((size != 0) & same_bytes(s, text_of(names, alias)))
+}
+
+// 6a, 6b: a name is reserved, or the alias is the namespace.
+fn schema_6ab(schemas: &[u8], names: &[u8], i: u16) -> bool
+    ensures { λ r. ⌜ r ≡ (rules.schema6a (modelOf (now (schemas .entry)) [] [] [] [] [] [] [] (now (names .entry))) i || rules.schema6b (modelOf (now (schemas .entry)) [] [] [] [] [] [] [] (now (names .entry))) i) ⌝ }
+{
+    let named = schema_alias(schemas, i);
+    let size = named.size;
+    let alias = text_of(names, named);
+    let namespace = text_of(names, schema_namespace(schemas, i));
+    is_reserved(namespace)
+        | ((size != 0) & is_reserved(alias))
+        | ((size != 0) & same_bytes(alias, namespace))
+}
+
+// Whether schema i has one of the names of schema j.
+fn shares_name(schemas: &[u8], names: &[u8], i: u16, j: u16) -> bool
+    ensures { λ r. ⌜ r ≡ rules.sharesName (modelOf (now (schemas .entry)) [] [] [] [] [] [] [] (now (names .entry))) i j ⌝ }
+{
+    let alias = schema_alias(schemas, i);
+    let size = alias.size;
+    names_schema(
+        schemas,
+        names,
+        text_of(names, schema_namespace(schemas, i)),
+        j,
+    )
+        | ((size != 0) & names_schema(schemas, names, text_of(names, alias), j))
+}
+
+// 6c: a name is one of an earlier schema's.
+fn schema_6c(schemas: &[u8], names: &[u8], i: u16) -> bool
+    ensures { λ r. ⌜ r ≡ rules.schema6c (modelOf (now (schemas .entry)) [] [] [] [] [] [] [] (now (names .entry))) i ⌝ }
+{
+    let mut j: u16 = 0;
+    while j < i {
+        if shares_name(schemas, names, i, j) {
+            return true;
+        }
+        j += 1;
+    }
+    false
+}
+
+// Rule 6 of schema i.
+pub fn schema_6(schemas: &[u8], names: &[u8], i: u16) -> bool
+    ensures { λ r. ⌜ r ≡ rules.schema6 (modelOf (now (schemas .entry)) [] [] [] [] [] [] [] (now (names .entry))) i ⌝ }
+{
+    schema_6ab(schemas, names, i) | schema_6c(schemas, names, i)
+}
+
+// Rule 6 of a record.
+pub fn rule_6(schemas: &[u8], names: &[u8], rec: Record) -> bool
+    ensures { λ r. ⌜ r ≡ rules.rule6 (modelOf (now (schemas .entry)) [] [] [] [] [] [] [] (now (names .entry))) rec ⌝ }
+{
+    match rec {
+        Record::OfSchema(s) => schema_6(schemas, names, s),
+        Record::OfType(_) => false,
+        Record::OfProperty(_) => false,
+        Record::OfKey(_) => false,
+        Record::OfConstraint(_) => false,
+        Record::OfChild(_) => false,
+        Record::OfBinding(_) => false,
+        Record::OfSegment(_) => false,
+        Record::Nowhere => false,
+    }
+}

@@ -1,0 +1,4 @@
+pub mod Climbing
+pub mod Marking
+pub mod Bridge
+pub mod Stages

@@ -1,0 +1,143 @@
+-- The verdict over the rules, one rule a turn: x is what the code found, 0 for none, else the place and 1. Assumes nothing.
+use Prim.Native.Nat.{ℕ, zero, suc, _+_, _-_}
+use mathlib.Core.Path.{_≡_, refl, sym, ap, _∙_, fun-ext}
+use mathlib.Core.Bool.{Bool}
+use mathlib.Core.List.{List, [], _∷_}
+use native.Mathlib.Omega.{arith}
+use Rattle.csdl.specs.Search.{firstFrom, orElse}
+use Rattle.csdl.specs.Model.{Model, modelOf}
+use Rattle.csdl.specs.Find.{ofKind, structured, ancestor, isAt, declares, own, find, isNameOf, complexStep, containStep, integral}
+use Rattle.csdl.specs.Instance.{Instance, instanceOf, nodeCount, slotCount, itemCount, parts, partAt}
+use Rattle.csdl.specs.Conforms.{node21a, slot21b, item21c, rule21, node22, rule22, slotsOf, node23, rule23, slot24, rule24, carriesNode, item25of, item25, rule25, holdsItem, holdsNode, node26, rule26, sited, instanceStages}
+use Rattle.csdl.specs.Verdict.{Answer, Stage, refuse, verdict}
+use Rattle.csdl.specs.Verdict.Answer.{refused}
+use Rattle.csdl.specs.Verdict.Stage.{each}
+use Rattle.csdl.specs.declared.Part.{Part}
+use Rattle.csdl.specs.declared.Part.the-variants.{OfNode, OfSlot, OfItem, Outside}
+use Rattle.conform.specs.Tables.{further}
+use Rattle.conform.proofs.Places.{first-part, nodes-only, slots-only, items-only}
+
+-- A rule that is broken; one that is kept.
+pub stage-hit : (n rule x : ℕ) (test : ℕ → Bool) (stages : List Stage) (o : Answer) → x ≡ firstFrom test 0 n → (x ≡ 0 → ⊥)
+    → refused rule (x - 1) ≡ verdict n (each rule test ∷ stages) o
+unfolding verdict
+stage-hit n rule x test stages o e h = rw (← e) (go x h)
+  where
+    go : (y : ℕ) → (y ≡ 0 → ⊥) → refused rule (y - 1) ≡ refuse rule y (verdict n stages o)
+    go zero q = absurd (q refl)
+    go (suc y) q = let z : suc y - 1 ≡ y = omega arith in rw z
+
+pub stage-next : (n rule x : ℕ) (test : ℕ → Bool) (stages : List Stage) (o answer : Answer) → x ≡ firstFrom test 0 n → x ≡ 0
+    → answer ≡ verdict n stages o
+    → answer ≡ verdict n (each rule test ∷ stages) o
+unfolding verdict
+stage-next n rule x test stages o answer e z p = rw (← e, z) p
+
+pub stages-end : (n : ℕ) (o : Answer) → o ≡ verdict n [] o
+unfolding verdict
+stages-end n o = refl
+
+-- The first of a node, a slot and an item.
+module _ (x f r : ℕ) (e : x ≡ f) where
+  pub found-here : (x ≡ 0 → ⊥) → x ≡ orElse f r
+  found-here n = rw (← e) (go x n)
+    where
+      go : (y : ℕ) → (y ≡ 0 → ⊥) → y ≡ orElse y r
+      go zero q = absurd (q refl)
+      go (suc y) q = refl
+
+  pub found-later : (a : ℕ) → x ≡ 0 → a ≡ r → a ≡ orElse f r
+  found-later a z p = rw (← e, z) p
+
+-- The same d further on.
+module _ (d x f : ℕ) (e : x ≡ f) where
+  pub further-here : (r : ℕ) → (x ≡ 0 → ⊥) → d + x ≡ orElse (further d f) r
+  further-here r n = rw (← e) (go x n)
+    where
+      go : (y : ℕ) → (y ≡ 0 → ⊥) → d + y ≡ orElse (further d y) r
+      go zero q = absurd (q refl)
+      go (suc y) q = over (d + suc y) (omega arith)
+        where
+          over : (z : ℕ) → (z ≡ 0 → ⊥) → z ≡ orElse z r
+          over zero p = absurd (p refl)
+          over (suc z) p = refl
+
+  pub further-none : (a r : ℕ) → x ≡ 0 → a ≡ r → a ≡ orElse (further d f) r
+  further-none a r z p = rw (← e, z) p
+
+  pub further-last : (x ≡ 0 → ⊥) → d + x ≡ further d f
+  further-last n = rw (← e) (go x n)
+    where
+      go : (y : ℕ) → (y ≡ 0 → ⊥) → d + y ≡ further d y
+      go zero q = absurd (q refl)
+      go (suc y) q = refl
+
+  pub further-gone : x ≡ 0 → 0 ≡ further d f
+  further-gone z = rw (← e, z)
+
+pub further-is : (d y : ℕ) → (y ≡ 0 → ⊥) → d + y ≡ further d y
+further-is d zero n = absurd (n refl)
+further-is d (suc y) n = refl
+
+-- Rule 21 by its parts.
+pub first-21 : (m : Model) (i : Instance)
+    → firstFrom (sited m i rule21) 0 (parts i)
+    ≡ orElse (firstFrom (λ v. node21a m i v) 0 (i .nodes))
+    (orElse (further (i .nodes) (firstFrom (λ s. slot21b m i s) 0 (i .slots))) (further (i .nodes + i .slots) (firstFrom (λ k. item21c i k) 0 (i .items))))
+unfolding rule21
+first-21 m i = first-part i (rule21 m i)
+
+-- ---- what was found at the tables that a rule reads, as what is found at all tables
+module _ (sc ty pr ke co ch bi sg nm no sl it : List ℕ) (x : ℕ) where
+  pub found-21 : x ≡ firstFrom (sited (modelOf [] ty pr [] [] [] [] [] []) (instanceOf no sl it) rule21) 0 (parts (instanceOf no sl it))
+      → x ≡ firstFrom (sited (modelOf sc ty pr ke co ch bi sg nm) (instanceOf no sl it) rule21) 0 (parts (instanceOf no sl it))
+  unfolding modelOf node21a slot21b
+  found-21 e =
+      e ∙ first-21 (modelOf [] ty pr [] [] [] [] [] []) (instanceOf no sl it) ∙ sym (first-21 (modelOf sc ty pr ke co ch bi sg nm) (instanceOf no sl it))
+
+  pub found-22 : x ≡ firstFrom (λ v. node22 (modelOf [] ty [] [] [] [] [] [] []) (instanceOf no [] []) v) 0 (nodeCount no)
+      → x ≡ firstFrom (sited (modelOf sc ty pr ke co ch bi sg nm) (instanceOf no sl it) rule22) 0 (parts (instanceOf no sl it))
+  unfolding modelOf instanceOf node22 structured
+  found-22 e = e ∙ sym (nodes-only (instanceOf no sl it) (λ v. node22 (modelOf sc ty pr ke co ch bi sg nm) (instanceOf no sl it) v))
+
+  pub found-23 : x ≡ firstFrom (λ v. node23 (modelOf [] ty pr [] [] [] [] [] nm) (instanceOf no sl []) v) 0 (nodeCount no)
+      → x ≡ firstFrom (sited (modelOf sc ty pr ke co ch bi sg nm) (instanceOf no sl it) rule23) 0 (parts (instanceOf no sl it))
+  unfolding modelOf instanceOf node23 slotsOf isNameOf find own declares
+  found-23 e = e ∙ sym (nodes-only (instanceOf no sl it) (λ v. node23 (modelOf sc ty pr ke co ch bi sg nm) (instanceOf no sl it) v))
+
+  pub found-24 : x ≡ further (nodeCount no) (firstFrom (λ s. slot24 (modelOf [] [] pr [] [] [] [] [] []) (instanceOf [] sl []) s) 0 (slotCount sl))
+      → x ≡ firstFrom (sited (modelOf sc ty pr ke co ch bi sg nm) (instanceOf no sl it) rule24) 0 (parts (instanceOf no sl it))
+  unfolding modelOf instanceOf slot24
+  found-24 e = e ∙ sym (slots-only (instanceOf no sl it) (λ s. slot24 (modelOf sc ty pr ke co ch bi sg nm) (instanceOf no sl it) s))
+
+  pub found-25 : x ≡ further (nodeCount no + slotCount sl) (firstFrom (λ k. item25 (modelOf [] ty pr [] [] [] [] [] []) (instanceOf no sl it) k) 0 (itemCount it))
+      → x ≡ firstFrom (sited (modelOf sc ty pr ke co ch bi sg nm) (instanceOf no sl it) rule25) 0 (parts (instanceOf no sl it))
+  unfolding modelOf instanceOf item25 item25of structured carriesNode isAt ancestor
+  found-25 e = e ∙ sym (items-only (instanceOf no sl it) (λ k. item25 (modelOf sc ty pr ke co ch bi sg nm) (instanceOf no sl it) k))
+
+  pub found-26 : x ≡ firstFrom (λ w. node26 (modelOf [] ty pr [] [] [] [] [] []) (instanceOf no sl it) w) 0 (nodeCount no)
+      → x ≡ firstFrom (sited (modelOf sc ty pr ke co ch bi sg nm) (instanceOf no sl it) rule26) 0 (parts (instanceOf no sl it))
+  unfolding modelOf instanceOf node26 holdsNode holdsItem integral complexStep containStep ofKind
+  found-26 e = e ∙ sym (nodes-only (instanceOf no sl it) (λ w. node26 (modelOf sc ty pr ke co ch bi sg nm) (instanceOf no sl it) w))
+
+-- The verdict at the tables that the check is given, as the verdict at all tables.
+module _ (sc ty pr ke co ch bi sg nm : List ℕ) (i : Instance) where
+  rule-21-frame : (r : Part) → rule21 (modelOf [] ty pr [] [] [] [] [] nm) i r ≡ rule21 (modelOf sc ty pr ke co ch bi sg nm) i r
+  unfolding modelOf rule21 node21a slot21b
+  rule-21-frame (OfNode v) = refl
+  rule-21-frame (OfSlot s) = refl
+  rule-21-frame (OfItem k) = refl
+  rule-21-frame Outside = refl
+
+  pub verdict-frame : (o : Answer)
+      → verdict (parts i) (instanceStages (modelOf [] ty pr [] [] [] [] [] nm) i) o ≡ verdict (parts i) (instanceStages (modelOf sc ty pr ke co ch bi sg nm) i) o
+  unfolding modelOf instanceStages node22 structured node23 isNameOf find own declares slot24 item25 item25of carriesNode isAt ancestor node26 holdsNode holdsItem
+      integral complexStep containStep ofKind
+  verdict-frame o =
+      let m = modelOf sc ty pr ke co ch bi sg nm in
+      ap
+      (λ (test : ℕ → Bool).
+      verdict (parts i)
+      (each 21 test ∷ each 22 (sited m i rule22) ∷ each 23 (sited m i rule23) ∷ each 24 (sited m i rule24) ∷ each 25 (sited m i rule25) ∷ each 26 (sited m i rule26) ∷ [])
+      o)
+      (fun-ext (λ place. rule-21-frame (partAt i place)))

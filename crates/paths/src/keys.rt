@@ -1,0 +1,166 @@
+// Rule 15: keys.
+ghost use mathlib.Core.Path.{_≡_};
+ghost use mathlib.Core.List.{[]};
+ghost use mathlib.Core.Bool.{_||_};
+ghost use Prim.Native.Nat.{_≤_, _<_};
+ghost use lib.ListN.{length};
+ghost use Rattle.csdl.specs.Model.{modelOf};
+ghost use Rattle.csdl.specs.Paths.{keyName, key15a, key15b, key15c, key15d, key15e, key15f, key15g, key15h, key15};
+ghost use Rattle.paths.specs.Keys.{againNamed};
+use crate::steps::StepTest;
+use crate::steps::step_or_end;
+use lookup::bases::ancestor;
+use lookup::kinds::of_kind;
+use lookup::names::find;
+use lookup::texts::key_alias_text;
+use lookup::texts::segment_text;
+use packed::same_bytes;
+use records::keys::key_alias;
+use records::keys::key_count;
+use records::keys::key_owner;
+use records::keys::key_path;
+use trail::codes::has_cast;
+use trail::resolve::trail_of;
+
+// Whether an ancestor of the owner has keys (15b).
+pub fn key_above(types: &[u8], keys: &[u8], k: u16) -> bool
+    requires { ⌜ (length (now types) ≤ 384) × (length (now keys) ≤ 768) ⌝ }
+    ensures { λ r. ⌜ r ≡ key15b (modelOf [] (now (types .entry)) [] (now (keys .entry)) [] [] [] [] []) k ⌝ }
+{
+    let n = key_count(keys);
+    let owner = key_owner(keys, k);
+    let mut j: u16 = 0;
+    while j < n {
+        if ancestor(types, key_owner(keys, j), owner) {
+            return true;
+        }
+        j += 1;
+    }
+    false
+}
+
+// Whether the path has a cast, or a step that it may not have (15c to 15e).
+pub fn key_walk(
+    types: &[u8],
+    properties: &[u8],
+    keys: &[u8],
+    segments: &[u8],
+    names: &[u8],
+    k: u16,
+) -> bool
+    requires { ⌜ (length (now types) ≤ 384) × (length (now properties) ≤ 3584) ⌝ }
+    ensures { λ r. ⌜ r ≡ (key15c (modelOf [] (now (types .entry)) (now (properties .entry)) (now (keys .entry)) [] [] [] (now (segments .entry)) (now (names .entry))) k || (key15d (modelOf [] (now (types .entry)) (now (properties .entry)) (now (keys .entry)) [] [] [] (now (segments .entry)) (now (names .entry))) k || key15e (modelOf [] (now (types .entry)) (now (properties .entry)) (now (keys .entry)) [] [] [] (now (segments .entry)) (now (names .entry))) k)) ⌝ }
+{
+    let run = key_path(keys, k);
+    let first = run.first;
+    let n = run.count;
+    let trail = trail_of(
+        types,
+        properties,
+        segments,
+        names,
+        key_owner(keys, k),
+        first,
+        n,
+    );
+    let codes = trail.codes;
+    has_cast(&codes, n)
+        | step_or_end(
+            types,
+            properties,
+            StepTest::NoKeyStep,
+            StepTest::NoKeyEnd,
+            &codes,
+            n,
+        )
+}
+
+// Whether an alias is there though the path has one segment, or is not though it has more (15f).
+fn key_alias_form(keys: &[u8], k: u16) -> bool
+    ensures { λ r. ⌜ r ≡ key15f (modelOf [] [] [] (now (keys .entry)) [] [] [] [] []) k ⌝ }
+{
+    let alias = key_alias(keys, k);
+    let run = key_path(keys, k);
+    if alias.size == 0 {
+        return 1 < run.count;
+    }
+    run.count <= 1
+}
+
+// The name of a key: its alias, else the name of its one segment.
+pub fn key_name<'a>(keys: &[u8], segments: &[u8], names: &'a [u8], k: u16) -> &'a [u8]
+    ensures { λ r. ⌜ now r ≡ keyName (modelOf [] [] [] (now (keys .entry)) [] [] [] (now (segments .entry)) (now (names .entry))) k ⌝ }
+{
+    let alias = key_alias(keys, k);
+    if alias.size == 0 {
+        let run = key_path(keys, k);
+        return segment_text(segments, names, run.first);
+    }
+    key_alias_text(keys, names, k)
+}
+
+// Whether keys j and k have the same owner and name.
+fn again_named(keys: &[u8], segments: &[u8], names: &[u8], j: u16, k: u16) -> bool
+    ensures { λ r. ⌜ r ≡ againNamed (modelOf [] [] [] (now (keys .entry)) [] [] [] (now (segments .entry)) (now (names .entry))) j k ⌝ }
+{
+    if key_owner(keys, j) != key_owner(keys, k) {
+        return false;
+    }
+    same_bytes(
+        key_name(keys, segments, names, j),
+        key_name(keys, segments, names, k),
+    )
+}
+
+// Whether an earlier key of the owner has the name (15g).
+pub fn key_named(keys: &[u8], segments: &[u8], names: &[u8], k: u16) -> bool
+    ensures { λ r. ⌜ r ≡ key15g (modelOf [] [] [] (now (keys .entry)) [] [] [] (now (segments .entry)) (now (names .entry))) k ⌝ }
+{
+    let mut j: u16 = 0;
+    while j < k {
+        if again_named(keys, segments, names, j, k) {
+            return true;
+        }
+        j += 1;
+    }
+    false
+}
+
+// Whether the alias is the name of a property of the owner or an ancestor (15h).
+pub fn key_alias_found(types: &[u8], properties: &[u8], keys: &[u8], names: &[u8], k: u16) -> bool
+    requires { ⌜ (length (now types) ≤ 384) × (length (now properties) ≤ 3584) ⌝ }
+    ensures { λ r. ⌜ r ≡ key15h (modelOf [] (now (types .entry)) (now (properties .entry)) (now (keys .entry)) [] [] [] [] (now (names .entry))) k ⌝ }
+{
+    let alias = key_alias(keys, k);
+    if alias.size == 0 {
+        return false;
+    }
+    find(
+        types,
+        properties,
+        names,
+        key_alias_text(keys, names, k),
+        key_owner(keys, k),
+    )
+        != 0
+}
+
+// Whether key k breaks rule 15.
+pub fn key_15(
+    types: &[u8],
+    properties: &[u8],
+    keys: &[u8],
+    segments: &[u8],
+    names: &[u8],
+    k: u16,
+) -> bool
+    requires { ⌜ (length (now types) ≤ 384) × (length (now properties) ≤ 3584) × (length (now keys) ≤ 768) ⌝ }
+    ensures { λ r. ⌜ r ≡ key15 (modelOf [] (now (types .entry)) (now (properties .entry)) (now (keys .entry)) [] [] [] (now (segments .entry)) (now (names .entry))) k ⌝ }
+{
+    !of_kind(types, 0, key_owner(keys, k))
+        | key_above(types, keys, k)
+        | key_walk(types, properties, keys, segments, names, k)
+        | key_alias_form(keys, k)
+        | key_named(keys, segments, names, k)
+        | key_alias_found(types, properties, keys, names, k)
+}

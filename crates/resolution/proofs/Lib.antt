@@ -1,0 +1,3 @@
+pub mod Writing
+pub mod Progress
+pub mod Whole

@@ -1,0 +1,4 @@
+pub mod Covering
+pub mod Frame
+pub mod Least
+pub mod Trails

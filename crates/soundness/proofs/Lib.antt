@@ -1,0 +1,16 @@
+pub mod Lists
+pub mod Facts
+pub mod Find
+pub mod Ways
+pub mod Typed
+pub mod KeyPath
+pub mod Origins
+pub mod Levels
+pub mod Counts
+pub mod Once
+pub mod Rules
+pub mod Images
+pub mod PathRules
+pub mod Together
+pub mod Demands
+pub mod Worked

@@ -1,0 +1,312 @@
+-- Every path that a record of an accepted model holds resolves, and no name but its last is a navigation property without containment.
+use Prim.Native.Nat.{ℕ, _+_, _-_, _≤_, _<_, zero-le}
+use mathlib.Core.Path.{_≡_, refl, sym, subst}
+use mathlib.Core.List.{List, [], _∷_}
+use mathlib.Core.Bool.{Bool, true, false, cond, not, _&&_, _||_, or-true}
+use mathlib.Core.Logic.{⊎-elim}
+use native.Mathlib.Omega.{arith}
+use lib.Dec.{eqb, ltb}
+use borrow.Author.Tests.{eqb-false, ltb-true, ltb-false, not-false, not-true}
+use Rattle.csdl.specs.Search.{tab, all, some, butLast, lastOr}
+use Rattle.csdl.specs.Model.{Model, present, inRun, recordAt, typesAt, propertiesAt, keysAt, constraintsAt, childrenAt, bindingsAt, segmentsAt, places}
+use Rattle.csdl.specs.Find.{complex, complexStep, containStep, integral, structured}
+use Rattle.csdl.specs.Path.{Segment, Step, Kind, segmentAt, segmentsOf, along, stepAt, movesTo, resolves, stepsOf, holders, pathOf, startOf, pathSteps, pathEnd, properties, isProperty, isOther}
+use Rattle.csdl.specs.Path.Segment.{name, cast}
+use Rattle.csdl.specs.Path.Step.{property, type}
+use Rattle.csdl.specs.Path.Kind.{partner, key, dependent, principal, binding, target}
+use Rattle.csdl.specs.Form.{rule4, run4cd, path4, optionalPath4, property4, key4, constraint4, binding4}
+use Rattle.csdl.specs.Paths.{stuckIn, stuck, segment14, rule14, hasCast, lastStep, keyStep, keyEnd, keyType, key15, key15c, key15d, key15e, rule15, constraintStep, constraintPath, constraint16, constraint16cd, rule16, property17, property17b, rule17, crosses, bindingForm, binding19abc, targetStep, targetForm, binding19, binding19g, rule19}
+use Rattle.csdl.specs.Walk.{Chosen, ifPresent, pathChosen}
+use Rattle.csdl.specs.Walk.Chosen.{none, chosen}
+use Rattle.csdl.specs.declared.Record.{Record}
+use Rattle.csdl.specs.declared.Record.the-variants.{OfSchema, OfType, OfProperty, OfKey, OfConstraint, OfChild, OfBinding, OfSegment, Nowhere}
+use Rattle.csdl.specs.Accepted.{ModelKept}
+use Rattle.csdl.proofs.Logic.{or-no, or-left, or-cases, and-cases, and-no, any-none, in-run}
+use Rattle.csdl.proofs.Places.{of-property, of-key, of-constraint, of-binding, of-segment}
+use Rattle.soundness.proofs.Facts.{ModelFacts}
+use Rattle.soundness.proofs.Rules.{off, run-fits}
+use Rattle.soundness.proofs.Ways.{Way, inner, names, way, way-map, on-inner, on-all, noCast}
+
+-- Of the two cases of a test, the one that it takes.
+taken : {A : Type 0} (P : A → Type 0) (b : Bool) (x y : A) → (b ≡ true → P x) → (b ≡ false → P y) → P (cond b x y)
+taken P true x y f g = f refl
+taken P false x y f g = g refl
+
+-- The record at a place is one of its table.
+unfoldable InTable : Model → Record → Type 0
+InTable m (OfSchema s) = s < m .schemas
+InTable m (OfType t) = t < m .types
+InTable m (OfProperty p) = p < m .properties
+InTable m (OfKey k) = k < m .keys
+InTable m (OfConstraint c) = c < m .constraints
+InTable m (OfChild h) = h < m .children
+InTable m (OfBinding b) = b < m .bindings
+InTable m (OfSegment g) = g < m .segments
+InTable m Nowhere = Unit {0}
+
+in-table : (m : Model) (place : ℕ) → InTable m (recordAt m place)
+unfolding recordAt InTable
+in-table m place =
+    taken (InTable m) (ltb place (typesAt m)) _ _ (λ h. ltb-true place (typesAt m) h) (λ h1.
+    taken (InTable m) (ltb place (propertiesAt m)) _ _ (λ h. omega (arith, ltb-true place (propertiesAt m) h, ltb-false place (typesAt m) h1)) (λ h2.
+    taken (InTable m) (ltb place (keysAt m)) _ _ (λ h. omega (arith, ltb-true place (keysAt m) h, ltb-false place (propertiesAt m) h2)) (λ h3.
+    taken (InTable m) (ltb place (constraintsAt m)) _ _ (λ h. omega (arith, ltb-true place (constraintsAt m) h, ltb-false place (keysAt m) h3)) (λ h4.
+    taken (InTable m) (ltb place (childrenAt m)) _ _ (λ h. omega (arith, ltb-true place (childrenAt m) h, ltb-false place (constraintsAt m) h4)) (λ h5.
+    taken (InTable m) (ltb place (bindingsAt m)) _ _ (λ h. omega (arith, ltb-true place (bindingsAt m) h, ltb-false place (childrenAt m) h5)) (λ h6.
+    taken (InTable m) (ltb place (segmentsAt m)) _ _ (λ h. omega (arith, ltb-true place (segmentsAt m) h, ltb-false place (bindingsAt m) h6)) (λ h7.
+    taken (InTable m) (ltb place (places m)) _ _ (λ h. omega (arith, ltb-true place (places m) h, ltb-false place (segmentsAt m) h7)) (λ h. tt))))))))
+
+-- Record r holds a path of the kind.
+pub record Held (m : Model) (w : Kind) (r : ℕ) : Type 0 where
+  pub holder-there : r < holders m w
+  pub path-there : present (pathOf m w r) ≡ true
+
+unfoldable HeldBy : Model → Chosen → Type 0
+HeldBy m none = Unit {0}
+HeldBy m (chosen w r) = Held m w r
+
+held-by : (m : Model) (w : Kind) (r : ℕ) → r < holders m w → HeldBy m (ifPresent m w r)
+unfolding HeldBy
+held-by m w r l = taken (HeldBy m) (present (pathOf m w r)) (chosen w r) none (λ e. record { holder-there = l; path-there = e }) (λ e. tt)
+
+all-held : (m : Model) (r : Record) (n : ℕ) → InTable m r → HeldBy m (pathChosen m r n)
+unfolding HeldBy pathChosen InTable holders
+all-held m (OfSchema s) n l = tt
+all-held m (OfType t) n l = tt
+all-held m (OfProperty p) n l = taken (HeldBy m) (eqb n 0) (ifPresent m partner p) none (λ e. held-by m partner p l) (λ e. tt)
+all-held m (OfKey k) n l = taken (HeldBy m) (eqb n 0) (ifPresent m key k) none (λ e. held-by m key k l) (λ e. tt)
+all-held m (OfConstraint c) n l =
+    taken (HeldBy m) (eqb n 0) (ifPresent m dependent c) _ (λ e. held-by m dependent c l)
+    (λ e. taken (HeldBy m) (eqb n 1) (ifPresent m principal c) none (λ f. held-by m principal c l) (λ f. tt))
+all-held m (OfChild h) n l = tt
+all-held m (OfBinding b) n l =
+    taken (HeldBy m) (eqb n 0) (ifPresent m binding b) _ (λ e. held-by m binding b l)
+    (λ e. taken (HeldBy m) (eqb n 1) (ifPresent m target b) none (λ f. held-by m target b l) (λ f. tt))
+all-held m (OfSegment g) n l = tt
+all-held m Nowhere n l = tt
+
+pub held-at : (m : Model) (place n : ℕ) (w : Kind) (r : ℕ) → pathChosen m (recordAt m place) n ≡ chosen w r → Held m w r
+unfolding HeldBy
+held-at m place n w r e = subst (HeldBy m) e (all-held m (recordAt m place) n (in-table m place))
+
+-- Laws of lists of steps.
+module _ (bad : Step → Bool) (good : ℕ → Bool) (fine : (p : ℕ) → bad (property p) ≡ false → good p ≡ true) where
+  -- Where no step is bad, every name is good.
+  pub none-bad : (l : List Step) → some bad l ≡ false → all good (properties l) ≡ true
+  unfolding some all properties
+  none-bad [] e = refl
+  none-bad (property p ∷ l) e = let c = or-no (bad (property p)) (some bad l) e in rw (fine p (c .0)) (none-bad l (c .1))
+  none-bad (type c ∷ l) e = none-bad l (or-no (bad (type c)) (some bad l) e .1)
+
+all-more : (good better : ℕ → Bool) → ((p : ℕ) → good p ≡ true → better p ≡ true) → (l : List ℕ) → all good l ≡ true → all better l ≡ true
+unfolding all
+all-more good better f [] e = refl
+all-more good better f (p ∷ l) e = let c = and-cases (good p) (all good l) e in rw (f p (c .0)) (all-more good better f l (c .1))
+
+but-cons : (good : ℕ → Bool) (p : ℕ) (l : List ℕ) → good p ≡ true → all good (butLast l) ≡ true → all good (butLast (p ∷ l)) ≡ true
+unfolding all butLast
+but-cons good p [] e f = refl
+but-cons good p (q ∷ l) e f = rw e f
+
+-- The names but the last are names of the steps but the last.
+but-names : (good : ℕ → Bool) (l : List Step) → all good (properties (butLast l)) ≡ true → all good (butLast (properties l)) ≡ true
+unfolding all butLast properties
+but-names good [] e = refl
+but-names good (property p ∷ []) e = refl
+but-names good (type c ∷ []) e = refl
+but-names good (property p ∷ (s ∷ l)) e =
+    let c = and-cases (good p) (all good (properties (butLast (s ∷ l)))) e in
+    but-cons good p (properties (s ∷ l)) (c .0) (but-names good (s ∷ l) (c .1))
+but-names good (type c ∷ (s ∷ l)) e = but-names good (s ∷ l) e
+
+-- The names of the steps but the last, and the last.
+with-last : (bad : Step → Bool) (good : ℕ → Bool) → ((p : ℕ) → bad (property p) ≡ false → good p ≡ true) →
+    (d : Step) (l : List Step) → all good (properties (butLast l)) ≡ true → bad (lastOr d l) ≡ false → all good (properties l) ≡ true
+unfolding all butLast properties lastOr
+with-last bad good fine d [] e f = refl
+with-last bad good fine d (property p ∷ []) e f = rw (fine p f)
+with-last bad good fine d (type c ∷ []) e f = refl
+with-last bad good fine d (property p ∷ (s ∷ l)) e f =
+    let c = and-cases (good p) (all good (properties (butLast (s ∷ l)))) e in
+    rw (c .0) (with-last bad good fine (property p) (s ∷ l) (c .1) f)
+with-last bad good fine d (type c ∷ (s ∷ l)) e f = with-last bad good fine (type c) (s ∷ l) e f
+
+no-casts : (m : Model) (t : ℕ) (gs : List Segment) → hasCast (stepsOf m t gs) ≡ false → noCast gs ≡ true
+unfolding along stepAt movesTo some noCast
+no-casts m t [] e = refl
+no-casts m t (name nm ∷ gs) e = no-casts m (movesTo m t (name nm)) gs e
+no-casts m t (cast c ∷ gs) e = sym e
+
+-- No navigation property without containment.
+abbrev pub stays : Model → ℕ → Bool
+stays m p = not (crosses m p)
+
+module _ (m : Model) (k : ModelKept m) where
+  -- Rule 4: the path lies within the segments.
+  within : (w : Kind) (r : ℕ) → Held m w r → pathOf m w r .first + pathOf m w r .count ≤ m .segments
+  unfolding holders pathOf rule4 property4 key4 constraint4 binding4 path4 optionalPath4
+  within partner p h =
+      run-fits (m .segments) (m .partner p)
+      (off (property4 m p) (optionalPath4 m (m .partner p)) (λ q. simp (q, or-true)) (of-property m rule4 (k .kept4) p (h .holder-there)))
+  within key c h =
+      run-fits (m .segments) (m .keyPath c)
+      (off (key4 m c) (run4cd (m .segments) (m .keyPath c)) (λ q. simp (q, or-true)) (of-key m rule4 (k .kept4) c (h .holder-there)))
+  within dependent c h =
+      run-fits (m .segments) (m .dependent c)
+      (off (constraint4 m c) (run4cd (m .segments) (m .dependent c)) (λ q. simp (q, or-true)) (of-constraint m rule4 (k .kept4) c (h .holder-there)))
+  within principal c h =
+      run-fits (m .segments) (m .principal c)
+      (off (constraint4 m c) (run4cd (m .segments) (m .principal c)) (λ q. simp (q, or-true)) (of-constraint m rule4 (k .kept4) c (h .holder-there)))
+  within binding b h =
+      run-fits (m .segments) (m .bindingPath b)
+      (off (binding4 m b) (run4cd (m .segments) (m .bindingPath b)) (λ q. simp (q, or-true)) (of-binding m rule4 (k .kept4) b (h .holder-there)))
+  within target b h =
+      run-fits (m .segments) (m .targetPath b)
+      (off (binding4 m b) (run4cd (m .segments) (m .targetPath b)) (λ q. simp (q, or-true)) (of-binding m rule4 (k .kept4) b (h .holder-there)))
+
+  -- Rule 14: no segment is stuck, so the path resolves.
+  unstuck : (w : Kind) (g : ℕ) → g < m .segments → stuck m w g ≡ false
+  unfolding segment14
+  unstuck partner g l = off (segment14 m g) (stuck m partner g) (λ q. rw q) (of-segment m rule14 (k .kept14) g l)
+  unstuck key g l = off (segment14 m g) (stuck m key g) (λ q. simp (q, or-true)) (of-segment m rule14 (k .kept14) g l)
+  unstuck dependent g l = off (segment14 m g) (stuck m dependent g) (λ q. simp (q, or-true)) (of-segment m rule14 (k .kept14) g l)
+  unstuck principal g l = off (segment14 m g) (stuck m principal g) (λ q. simp (q, or-true)) (of-segment m rule14 (k .kept14) g l)
+  unstuck binding g l = off (segment14 m g) (stuck m binding g) (λ q. simp (q, or-true)) (of-segment m rule14 (k .kept14) g l)
+  unstuck target g l = off (segment14 m g) (stuck m target g) (λ q. simp (q, or-true)) (of-segment m rule14 (k .kept14) g l)
+
+  pub resolved : (w : Kind) (r : ℕ) → Held m w r → resolves m (startOf m w r) (segmentsOf m (pathOf m w r)) ≡ true
+  unfolding stuck stuckIn
+  resolved w r h =
+      let run = pathOf m w r in
+      let n = eqb-false (run .count) 0 (not-true (eqb (run .count) 0) (h .path-there)) in
+      let g = run .first + run .count - 1 in
+      let e = any-none (λ x. stuckIn m w g x) 0 (holders m w) (unstuck w g (omega (arith, within w r h, n))) r zero-le (omega (arith, h .holder-there)) in
+      let here = in-run run g (omega (arith, n)) (omega (arith, n)) in
+      let c : g + 1 - run .first ≡ run .count = omega (arith, n) in
+      let part = resolves m (startOf m w r) (tab (λ x. segmentAt m x) (run .first) (g + 1 - run .first)) in
+      let f : part ≡ true = not-false part (and-no (inRun run g) (not part) e here) in
+      rw c at f
+
+  -- What a step of each kind of path may be.
+  complex-stays : (p : ℕ) → complexStep m p ≡ true → stays m p ≡ true
+  unfolding complexStep crosses
+  complex-stays p e = let c = and-cases (not (m .navigation p)) (complex m (m .typeRef p)) e in rw (not-true (m .navigation p) (c .0))
+
+  contain-stays : (p : ℕ) → containStep m p ≡ true → stays m p ≡ true
+  unfolding containStep crosses
+  contain-stays p e = let c = and-cases (m .navigation p) (m .contains p) e in rw (c .0, c .1)
+
+  plain-stays : (p : ℕ) → m .navigation p ≡ false → stays m p ≡ true
+  unfolding crosses
+  plain-stays p e = rw e
+
+  key-stays : (p : ℕ) → not (keyStep m p) ≡ false → stays m p ≡ true
+  unfolding keyStep
+  key-stays p e = complex-stays p (and-cases (not (m .collection p) && not (m .nullable p)) (complexStep m p) (not-false (keyStep m p) e) .1)
+
+  constraint-stays : (p : ℕ) → not (constraintStep m p) ≡ false → stays m p ≡ true
+  unfolding constraintStep
+  constraint-stays p e = complex-stays p (and-cases (not (m .collection p)) (complexStep m p) (not-false (constraintStep m p) e) .1)
+
+  target-stays : (p : ℕ) → not (targetStep m p) ≡ false → stays m p ≡ true
+  unfolding targetStep
+  target-stays p e =
+      ⊎-elim (complex-stays p) (contain-stays p)
+      (or-cases (complexStep m p) (containStep m p)
+      (and-cases (not (m .collection p)) (complexStep m p || containStep m p) (not-false (targetStep m p) e) .1))
+
+  -- Rules 15 to 17 and 19: no name but the last leaves.
+  from-steps : (bad : Step → Bool) → ((p : ℕ) → bad (property p) ≡ false → stays m p ≡ true) → (l : List Step) → some bad (butLast l) ≡ false →
+      all (stays m) (butLast (properties l)) ≡ true
+  from-steps bad fine l e = but-names (stays m) l (none-bad bad (stays m) fine (butLast l) e)
+
+  form-stays : (test : ℕ → Bool) (l : List ℕ) → bindingForm m test l ≡ false → all (stays m) (butLast l) ≡ true
+  unfolding bindingForm some all butLast
+  form-stays test [] e = refl
+  form-stays test (p ∷ l) e = every (butLast (p ∷ l)) (or-no (not (test (lastOr p l))) (some (λ q. crosses m q) (butLast (p ∷ l))) e .1)
+    where
+      every : (x : List ℕ) → some (λ q. crosses m q) x ≡ false → all (stays m) x ≡ true
+      every [] f = refl
+      every (q ∷ x) f = let c = or-no (crosses m q) (some (λ z. crosses m z) x) f in rw (c .0) (every x (c .1))
+
+  target-form : (l : List Step) → targetForm m l ≡ false → some (λ s. isOther (λ p. targetStep m p) s) (butLast l) ≡ false
+  unfolding targetForm some butLast
+  target-form [] e = refl
+  target-form (s ∷ l) e = or-no (some (λ x. isOther (λ p. targetStep m p) x) (butLast (s ∷ l))) (isOther (λ p. containStep m p) (lastOr s l)) e .0
+
+  constraint-form : (l : List Step) → constraintPath m l ≡ false → all (stays m) (butLast (properties l)) ≡ true
+  unfolding constraintPath
+  constraint-form l e =
+      from-steps (λ s. isOther (λ p. constraintStep m p) s) constraint-stays l
+      (or-no (some (λ s. isOther (λ p. constraintStep m p) s) (butLast l)) (isProperty (λ p. m .navigation p) (lastStep l)) e .0)
+
+  pub inner-stays : (w : Kind) (r : ℕ) → Held m w r → all (stays m) (butLast (properties (pathSteps m w r))) ≡ true
+  unfolding holders pathOf property17 key15 constraint16 constraint16cd binding19
+  inner-stays partner p h =
+      let e = off (property17 m p) (property17b m p) (λ q. rw (h .path-there) (simp (q, or-true))) (of-property m rule17 (k .kept17) p (h .holder-there)) in
+      from-steps (λ s. isProperty (λ q. m .navigation q) s) plain-stays (pathSteps m partner p) e
+  inner-stays key c h =
+      let e = off (key15 m c) (key15d m c) (λ q. simp (q, or-true)) (of-key m rule15 (k .kept15) c (h .holder-there)) in
+      from-steps (λ s. isOther (λ p. keyStep m p) s) key-stays (pathSteps m key c) e
+  inner-stays dependent c h =
+      constraint-form (pathSteps m dependent c)
+      (off (constraint16 m c) (constraintPath m (pathSteps m dependent c)) (λ q. simp (q, or-true)) (of-constraint m rule16 (k .kept16) c (h .holder-there)))
+  inner-stays principal c h =
+      constraint-form (pathSteps m principal c)
+      (off (constraint16 m c) (constraintPath m (pathSteps m principal c)) (λ q. simp (q, or-true)) (of-constraint m rule16 (k .kept16) c (h .holder-there)))
+  inner-stays binding b h =
+      form-stays (λ p. crosses m p) (properties (pathSteps m binding b))
+      (off (binding19 m b) (binding19abc m b) (λ q. rw q) (of-binding m rule19 (k .kept19) b (h .holder-there)))
+  inner-stays target b h =
+      let e = off (binding19 m b) (binding19g m b) (λ q. simp (q, or-true)) (of-binding m rule19 (k .kept19) b (h .holder-there)) in
+      from-steps (λ s. isOther (λ p. targetStep m p) s) target-stays (pathSteps m target b) (target-form (pathSteps m target b) e)
+
+  module _ (f : ModelFacts m) where
+    stays-integral : (b : Bool) (p : ℕ) → p < m .properties → (b ≡ true → structured m (m .typeRef p) ≡ true) → inner (stays m) b p ≡ true →
+        inner (integral m) b p ≡ true
+    unfolding inner crosses integral complexStep containStep
+    stays-integral false p l s e = refl
+    stays-integral true p l s e = go (m .navigation p) refl
+      where
+        go : (n : Bool) → m .navigation p ≡ n → integral m p ≡ true
+        go true n = rw n (not-false (m .contains p) (not-true (not (m .contains p)) (rw n at e)))
+        go false n = rw n (or-left (complex m (m .typeRef p)) false (f .structural p l n (s refl)))
+
+    -- The path of a record, as a way with integral inner names.
+    pub path-way : (w : Kind) (r : ℕ) → Held m w r → Way m (inner (integral m)) (startOf m w r) (segmentsOf m (pathOf m w r)) (pathEnd m w r)
+    path-way w r h =
+        let t = startOf m w r in
+        let gs = segmentsOf m (pathOf m w r) in
+        way-map m f stays-integral (way m (inner (stays m)) t gs (resolved w r h) (on-inner (stays m) (names m t gs) (inner-stays w r h)))
+
+  -- Rule 15: a key's names are single and not nullable, and it has no cast.
+  abbrev required : ℕ → Bool
+  required p = not (m .collection p) && not (m .nullable p)
+
+  step-required : (p : ℕ) → not (keyStep m p) ≡ false → required p ≡ true
+  unfolding keyStep
+  step-required p e = and-cases (required p) (complexStep m p) (not-false (keyStep m p) e) .0
+
+  end-required : (p : ℕ) → not (keyEnd m p) ≡ false → required p ≡ true
+  unfolding keyEnd
+  end-required p e = and-cases (required p) (keyType m (m .typeRef p)) (not-false (keyEnd m p) e) .0
+
+  pub key-way : (r : ℕ) → Held m key r → Way m (λ b p. required p) (startOf m key r) (segmentsOf m (pathOf m key r)) (pathEnd m key r)
+  unfolding key15 holders
+  key-way r h =
+      let kept = of-key m rule15 (k .kept15) r (h .holder-there) in
+      let steps = pathSteps m key r in
+      let d = off (key15 m r) (key15d m r) (λ q. simp (q, or-true)) kept in
+      let e = off (key15 m r) (key15e m r) (λ q. simp (q, or-true)) kept in
+      let a = none-bad (λ s. isOther (λ p. keyStep m p) s) required step-required (butLast steps) d in
+      let b = with-last (λ s. isOther (λ p. keyEnd m p) s) required end-required (type 0) steps a e in
+      way m (λ x p. required p) (startOf m key r) (segmentsOf m (pathOf m key r)) (resolved key r h) (on-all required (properties steps) b)
+
+  pub key-plain : (r : ℕ) → Held m key r → noCast (segmentsOf m (pathOf m key r)) ≡ true
+  unfolding key15 key15c holders
+  key-plain r h =
+      no-casts m (startOf m key r) (segmentsOf m (pathOf m key r))
+      (off (key15 m r) (key15c m r) (λ q. simp (q, or-true)) (of-key m rule15 (k .kept15) r (h .holder-there)))
+
+  pub key-single : (b : Bool) (p : ℕ) → required p ≡ true → (m .collection p ≡ false) × (m .nullable p ≡ false)
+  key-single b p e = let c = and-cases (not (m .collection p)) (not (m .nullable p)) e in (not-true (m .collection p) (c .0), not-true (m .nullable p) (c .1))

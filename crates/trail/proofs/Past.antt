@@ -1,0 +1,68 @@
+-- Numbers past the tables: no base, no kind, no property of that owner. Assumes nothing.
+use Prim.Native.Nat.{ℕ, zero, suc, _+_, _-_, _*_, _/_, _%_, _^_, _≤_, _<_}
+use mathlib.Core.Path.{_≡_, refl, sym, _∙_}
+use mathlib.Core.List.{List, []}
+use mathlib.Core.Bool.{Bool, true, false, cond}
+use native.Mathlib.Nat.{zero-div}
+use native.Mathlib.Omega.{arith}
+use lib.Dec.{eqb, ltb}
+use lib.ListN.{length, getD, List·getD-eq-default}
+use borrow.Author.Tests.{eq-eqb, ne-eqb, le-ltb}
+use Rattle.packed.specs.Field.{bit, fieldOf}
+use Rattle.packed.proofs.Laws.{field-lt, field-suc}
+use Rattle.csdl.specs.Tables.{typeBase}
+use Rattle.csdl.specs.Search.{firstFrom, orElse}
+use Rattle.csdl.specs.Climb.{climb, nearest}
+use Rattle.csdl.specs.Model.{modelOf, Model}
+use Rattle.csdl.specs.Find.{structured, isAt, ancestor, find, own, declares}
+use Rattle.lookup.proofs.Climb.{climb-none, nearest-none}
+
+bit-past : (s : List ℕ) (k : ℕ) → 8 * length s ≤ k → bit s k ≡ 0
+unfolding bit
+bit-past s k h =
+    let l : length s ≤ k / 8 = omega arith in
+    let e : getD s (k / 8) 0 ≡ 0 = List·getD-eq-default s 0 l in
+    rw (e, zero-div)
+
+pub field-past : (s : List ℕ) (off w : ℕ) → 8 * length s ≤ off → fieldOf s off w ≡ 0
+unfolding fieldOf
+field-past s off zero h = refl
+field-past s off (suc w) h = rw (field-past s off w h, bit-past s (off + w) (omega arith))
+
+base-past : (ty : List ℕ) (t : ℕ) → length ty ≤ 384 → 64 ≤ t → typeBase ty t ≡ 0
+base-past ty t l h = field-past ty (48 * t + 10) 7 (omega arith)
+
+climb-high : (next : ℕ → ℕ) → ((u : ℕ) → next u < 128) → (left a t : ℕ) → 128 ≤ a → climb next left a t ≡ false
+unfolding climb
+climb-high next s zero a t h = refl
+climb-high next s (suc left) a t h =
+    let n : next t - 1 ≡ a → ⊥ = λ e. omega (arith, s t) in
+    rw (climb-high next s left a (next t - 1) h, ne-eqb (next t - 1) a n) (either (eqb (next t) 0))
+  where
+    either : (b : Bool) → cond b false false ≡ false
+    either true = refl
+    either false = refl
+
+first-none : (test : ℕ → Bool) → ((i : ℕ) → test i ≡ false) → (i n : ℕ) → firstFrom test i n ≡ 0
+unfolding firstFrom
+first-none test never i zero = refl
+first-none test never i (suc n) = rw (never i, first-none test never (i + 1) n)
+
+module _ (ty : List ℕ) (l : length ty ≤ 384) where
+  pub structured-past : (x : ℕ) → 64 ≤ x → structured (modelOf [] ty [] [] [] [] [] [] []) x ≡ false
+  unfolding modelOf structured
+  structured-past x h = rw (le-ltb x (length ty / 6) (omega arith))
+
+  pub is-at-past : (a t : ℕ) → (t ≡ a → ⊥) → 64 ≤ t → isAt (modelOf [] ty [] [] [] [] [] [] []) a t ≡ false
+  unfolding modelOf isAt ancestor
+  is-at-past a t n h = rw (ne-eqb t a n) (sym (climb-none (λ u. typeBase ty u) t 0 (sym (base-past ty t l h)) a (length ty / 6) refl))
+
+  pub is-at-high : (a t : ℕ) → (t ≡ a → ⊥) → 128 ≤ a → isAt (modelOf [] ty [] [] [] [] [] [] []) a t ≡ false
+  unfolding modelOf isAt ancestor
+  is-at-high a t n h = rw (ne-eqb t a n) (climb-high (λ u. typeBase ty u) (λ u. field-lt ty (48 * u + 10) 7) (length ty / 6) a t h)
+
+  pub find-past : (pr nm x : List ℕ) (t : ℕ) → 64 ≤ t → find (modelOf [] ty pr [] [] [] [] [] nm) x t ≡ 0
+  unfolding modelOf find own declares
+  find-past pr nm x t h =
+      sym (nearest-none _ (λ u. typeBase ty u) t 0 (sym (first-none _ (λ p. rw (ne-eqb (fieldOf pr (56 * p) 6) t (λ e. omega (arith, field-lt pr (56 * p) 6)))) 0 (length pr / 7)))
+      (length ty / 6) 0 refl (sym (base-past ty t l h)) refl)

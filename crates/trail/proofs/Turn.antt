@@ -1,0 +1,83 @@
+-- A path resolved so far, and one segment more. Assumes nothing.
+use Prim.Native.Nat.{ℕ, zero, suc, _+_, _-_, _≤_, _<_}
+use mathlib.Core.Path.{_≡_, refl, sym, _∙_}
+use mathlib.Core.List.{List}
+use mathlib.Core.Bool.{Bool, true, false, cond, _&&_, and-true, and-false}
+use native.Mathlib.Nat.{not-suc-le-zero}
+use native.Mathlib.Numerals.{add-one}
+use native.Mathlib.Omega.{arith}
+use lib.Dec.{eqb, leb}
+use lib.ListN.{length, getD, set, length-set}
+use lib.Seq.{getD-set-same, getD-set-other}
+use borrow.Author.Tests.{le-leb, lt-leb, eqb-true, eqb-false}
+use borrow.Author.Count.{below-more}
+use Rattle.csdl.specs.Search.{tab}
+use Rattle.csdl.specs.Model.{Model}
+use Rattle.csdl.specs.Path.{segmentAt, stepAt, movesTo, resolvesAt, resolves, endOf, alongAll, alongEnd}
+use Rattle.csdl.specs.Verdict.{stepCode}
+use Rattle.trail.specs.Trail.{TrailOf, prefix, stepNo, codeAt}
+use Rattle.trail.proofs.Laws.{end-more, all-more}
+
+most-next : (b : Bool) (taken k : ℕ) → taken ≤ k → cond b (k + 1) taken ≤ k + 1
+most-next true taken k h = omega arith
+most-next false taken k h = omega arith
+
+-- the segments before number k resolve as far as before
+reach-old : (j k taken : ℕ) (ok : Bool) → j ≤ k → leb j taken ≡ leb j (cond (ok && eqb taken k) (k + 1) taken)
+reach-old j k taken false h = refl
+reach-old j k taken true h = go (eqb taken k) refl
+  where
+    go : (q : Bool) → eqb taken k ≡ q → leb j taken ≡ leb j (cond q (k + 1) taken)
+    go false e = refl
+    go true e =
+        let z : taken ≡ k = eqb-true taken k e in
+        le-leb j taken (omega arith) ∙ sym (le-leb j (k + 1) (omega arith))
+
+-- and segment k resolves if it does and they do
+reach-new : (k taken : ℕ) (ok : Bool) → taken ≤ k → (leb k taken && ok) ≡ leb (k + 1) (cond (ok && eqb taken k) (k + 1) taken)
+reach-new k taken false h = rw (and-false, lt-leb (k + 1) taken (omega arith))
+reach-new k taken true h = rw and-true (go (eqb taken k) refl)
+  where
+    go : (q : Bool) → eqb taken k ≡ q → leb k taken ≡ leb (k + 1) (cond q (k + 1) taken)
+    go false e =
+        let n : taken ≡ k → ⊥ = eqb-false taken k e in
+        lt-leb k taken (omega (arith, n)) ∙ sym (lt-leb (k + 1) taken (omega arith))
+    go true e =
+        let z : taken ≡ k = eqb-true taken k e in
+        le-leb k taken (omega arith) ∙ sym (le-leb (k + 1) (k + 1) (omega arith))
+
+module _ (m : Model) (start first : ℕ) where
+  pub trail-start : (codes : List ℕ) → length codes ≡ 16 → TrailOf m start first 0 codes 0 start
+  unfolding tab alongAll alongEnd
+  trail-start codes e =
+      record {
+        size = e;
+        code = λ k h. absurd (not-suc-le-zero h);
+        most = omega arith;
+        reach = λ k h. let z : k ≡ 0 = omega arith in rw z;
+        goal = refl;
+      }
+
+  module _ (codes : List ℕ) (taken t k : ℕ) (old : TrailOf m start first k codes taken t) where
+    reach-next : (ok : Bool) → ok ≡ resolvesAt m t (segmentAt m (first + k)) → (j : ℕ) → j < k + 1 + 1
+        → resolves m start (prefix m first j) ≡ leb j (cond (ok && eqb taken k) (k + 1) taken)
+    reach-next ok e =
+        below-more (λ j. resolves m start (prefix m first j) ≡ leb j (cond (ok && eqb taken k) (k + 1) taken)) (k + 1)
+        (λ j h. old .reach j (omega arith) ∙ reach-old j k taken ok (omega arith))
+        (rw (add-one k, all-more (λ u g. movesTo m u g) (λ g. segmentAt m g) (λ u g. resolvesAt m u g) start first k, old .reach k (omega arith), ← old .goal, ← e, ← add-one k)
+        (reach-new k taken ok (old .most)))
+
+    pub trail-next : {ok : Bool} {code to : ℕ} → k < 16 → ok ≡ resolvesAt m t (segmentAt m (first + k)) → code ≡ stepCode (stepAt m t (segmentAt m (first + k)))
+        → to ≡ movesTo m t (segmentAt m (first + k)) → TrailOf m start first (k + 1) (set codes k code) (cond (ok && eqb taken k) (k + 1) taken) to
+    unfolding codeAt stepNo
+    trail-next {ok} {code} {to} h e f g =
+        record {
+          size = rw length-set (old .size);
+          code =
+              below-more (λ j. getD (set codes k code) j 0 ≡ codeAt m start first j) k
+              (λ j lt. getD-set-other codes k j code 0 (λ q. let z : j ≡ k = q in omega arith) ∙ old .code j lt)
+              (getD-set-same codes k code 0 (omega (arith, old .size)) ∙ rw (← old .goal) f);
+          most = most-next (ok && eqb taken k) taken k (old .most);
+          reach = λ j le. reach-next ok e j (omega arith);
+          goal = rw (add-one k, end-more (λ u x. movesTo m u x) (λ x. segmentAt m x) start first k, ← old .goal) g;
+        }

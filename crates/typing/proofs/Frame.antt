@@ -1,0 +1,38 @@
+-- A rule at the tables that it reads, as the same rule at all nine. Assumes nothing.
+use Prim.Native.Nat.{ℕ}
+use mathlib.Core.Path.{_≡_, refl}
+use mathlib.Core.List.{List, []}
+use Rattle.csdl.specs.Model.{modelOf}
+use Rattle.csdl.specs.Find.{ofKind, structured, ancestor, isAt, complexStep, containStep, integral}
+use Rattle.csdl.specs.Types.{type8, type9}
+use Rattle.csdl.specs.Properties.{streams, property10, sameName, redeclares, property11a, property11b, property11, required, requiredStep, type12}
+use Rattle.typing.specs.Cycles.{cyclic}
+
+module _ (sc ty pr ke co ch bi sg nm : List ℕ) where
+  pub type-8-frame : (t : ℕ) → type8 (modelOf [] ty [] [] [] [] [] [] []) t ≡ type8 (modelOf sc ty pr ke co ch bi sg nm) t
+  unfolding modelOf type8
+  type-8-frame t = refl
+
+  pub type-9-frame : (t : ℕ) → type9 (modelOf [] ty [] [] [] [] [] [] []) t ≡ type9 (modelOf sc ty pr ke co ch bi sg nm) t
+  unfolding modelOf type9 ancestor
+  type-9-frame t = refl
+
+  pub property-10-frame : (p : ℕ) → property10 (modelOf [] ty pr [] [] [] [] [] []) p ≡ property10 (modelOf sc ty pr ke co ch bi sg nm) p
+  unfolding modelOf property10 streams ofKind structured
+  property-10-frame p = refl
+
+  pub property-11a-frame : (p : ℕ) → property11a (modelOf [] [] pr [] [] [] [] [] nm) p ≡ property11a (modelOf sc ty pr ke co ch bi sg nm) p
+  unfolding modelOf property11a sameName
+  property-11a-frame p = refl
+
+  pub property-11-frame : (p : ℕ) → property11 (modelOf [] ty pr [] [] [] [] [] nm) p ≡ property11 (modelOf sc ty pr ke co ch bi sg nm) p
+  unfolding modelOf property11 property11a property11b sameName redeclares ancestor
+  property-11-frame p = refl
+
+  pub type-12-frame : (t : ℕ) → type12 (modelOf [] ty pr [] [] [] [] [] []) t ≡ type12 (modelOf sc ty pr ke co ch bi sg nm) t
+  unfolding modelOf type12 requiredStep required integral complexStep containStep ofKind isAt ancestor
+  type-12-frame t = refl
+
+  pub cyclic-frame : cyclic (modelOf [] ty pr [] [] [] [] [] []) ≡ cyclic (modelOf sc ty pr ke co ch bi sg nm)
+  unfolding modelOf cyclic type12 requiredStep required integral complexStep containStep ofKind isAt ancestor
+  cyclic-frame = refl

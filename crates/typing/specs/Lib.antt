@@ -1,0 +1,3 @@
+pub mod Sets
+pub mod Cycles
+pub mod Steps

@@ -1,0 +1,19 @@
+-- The tests that the loops of rules 11 and 12 make; ancestors stand as a set.
+use Prim.Native.Nat.{ℕ}
+use mathlib.Core.Bool.{Bool, not, _&&_}
+use lib.Dec.{eqb}
+use Rattle.csdl.specs.Model.{Model}
+use Rattle.csdl.specs.Properties.{sameName, redeclares, required}
+use Rattle.typing.specs.Sets.{member}
+
+-- q is of p's owner and has p's name.
+unfoldable pub repeated : Model → ℕ → ℕ → Bool
+repeated m p q = eqb (m .owner q) (m .owner p) && sameName m p q
+
+-- q is of a type of the set and has p's name, and p may not redeclare it.
+unfoldable pub clash : Model → ℕ → ℕ → ℕ → Bool
+clash m above p q = member above (m .owner q) && sameName m p q && not (redeclares m p q)
+
+-- p is required, leads to u, and is of a type of the set.
+unfoldable pub leads : Model → ℕ → ℕ → ℕ → Bool
+leads m line u p = required m p && eqb (m .typeRef p) u && member line (m .owner p)

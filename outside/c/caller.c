@@ -1,0 +1,124 @@
+/* Calls the three exported functions on the worked example, with buffers of exactly the stated size, and prints their answers. */
+#include "tour_model.h"
+
+#include <stdio.h>
+#include <stdlib.h>
+#include <string.h>
+
+/* The worked example: 167 bytes. */
+static const uint8_t tour[] = {
+    4, 2, 0, 1, 0, 3, 0, 6, 0, 2, 0, 0, 0, 2, 0, 1, 0, 4, 0, 44, 0, 0, 16, 0, 0, 0, 0, 0, 0, 65, 0, 0, 0, 0, 1,
+    65, 0, 2, 0, 0, 2, 65, 0, 0, 18, 192, 52, 8, 0, 0, 3, 64, 64, 60, 20, 0, 0, 4, 18, 192, 52, 8, 0, 0, 4, 128,
+    128, 80, 20, 0, 0, 6, 128, 64, 100, 16, 0, 0, 8, 20, 0, 116, 16, 0, 0, 0, 0, 8, 0, 0, 0, 4, 0, 136, 0, 0, 0,
+    0, 2, 16, 80, 1, 2, 96, 96, 0, 1, 16, 32, 0, 0, 0, 13, 2, 0, 13, 2, 0, 15, 5, 0, 25, 4, 103, 84, 111, 117,
+    114, 83, 116, 111, 112, 84, 101, 120, 116, 78, 111, 83, 116, 111, 112, 115, 76, 97, 98, 101, 108, 78, 101,
+    120, 116, 76, 97, 110, 103, 84, 111, 117, 114, 115, 83, 112, 97, 114, 101, 115,
+};
+
+/* An instance of it: a tour with two stops, the first of which leads to the second. */
+static const uint8_t visit[] = {
+    4, 2, 0, 4, 0, 9, 0, 8, 0, 0, 0, 64, 4, 1, 0, 96, 4, 2, 128, 96, 8, 4, 0, 32, 0, 32, 0, 0, 32, 0, 192, 2, 0,
+    64, 1, 32, 6, 0, 32, 1, 128, 0, 0, 0, 2, 32, 8, 0, 32, 1, 32, 10, 0, 32, 1, 160, 12, 0, 32, 2, 0, 0, 0, 0, 2,
+    160, 14, 0, 32, 75, 0, 0, 7, 1, 0, 0, 1, 1, 0, 0, 2, 75, 0, 0, 1, 1, 0, 0, 2, 75, 0, 0, 2, 2, 0, 0, 3, 80, 0,
+    0, 5,
+};
+
+enum { BINDING = 14, SEGMENTS = 4, SLOTS = 9, ITEMS = 8 };
+
+/* Bytes on the heap, so that a checker of memory sees their exact ends. */
+static uint8_t *copy(const uint8_t *bytes, size_t length)
+{
+    uint8_t *space = malloc(length > 0 ? length : 1);
+    if (space == NULL)
+        exit(2);
+    if (length > 0)
+        memcpy(space, bytes, length);
+    return space;
+}
+
+static uint8_t *filled(size_t length)
+{
+    uint8_t *space = malloc(length > 0 ? length : 1);
+    if (space == NULL)
+        exit(2);
+    memset(space, 0xa5, length > 0 ? length : 1);
+    return space;
+}
+
+static void print_bytes(const uint8_t *bytes, size_t length)
+{
+    for (size_t i = 0; i < length; i++)
+        printf("%02x", bytes[i]);
+    printf("\n");
+}
+
+static void print_model(const uint8_t *bytes, size_t length, size_t room)
+{
+    uint8_t *image = copy(bytes, length);
+    uint8_t *resolution = filled(room);
+    uint64_t answer = tour_check_model(image, length, resolution, room);
+    if (TOUR_REFUSED(answer))
+        printf("model refused %u place %u, buffer ", TOUR_RULE(answer), TOUR_PLACE(answer));
+    else
+        printf("model accepted %u, buffer ", TOUR_PLACE(answer));
+    print_bytes(resolution, room);
+    free(resolution);
+    free(image);
+}
+
+static void print_instance(const uint8_t *bytes, size_t length)
+{
+    uint8_t *model = copy(tour, sizeof tour);
+    uint8_t *instance = copy(bytes, length);
+    uint64_t answer = tour_check_instance(model, sizeof tour, instance, length);
+    if (TOUR_REFUSED(answer))
+        printf("instance refused %u place %u\n", TOUR_RULE(answer), TOUR_PLACE(answer));
+    else
+        printf("instance conforms\n");
+    free(instance);
+    free(model);
+}
+
+static void print_walk(uint32_t place, uint32_t path, uint32_t node, size_t room)
+{
+    uint8_t *model = copy(tour, sizeof tour);
+    uint8_t *instance = copy(visit, sizeof visit);
+    uint8_t *results = filled(room);
+    uint64_t answer = tour_walk(model, sizeof tour, instance, sizeof visit, place, path, node, results, room);
+    if (TOUR_REFUSED(answer)) {
+        printf("walk refused %u place %u\n", TOUR_RULE(answer), TOUR_PLACE(answer));
+    } else {
+        printf("walk gives %u, opened %u: ", TOUR_RESULTS(answer), TOUR_OPENED(answer));
+        print_bytes(results, 4 * TOUR_RESULTS(answer));
+    }
+    free(results);
+    free(instance);
+    free(model);
+}
+
+int main(void)
+{
+    const size_t room = 4 * (1 + SLOTS + ITEMS);
+    uint8_t cycle[sizeof tour];
+    memcpy(cycle, tour, sizeof tour);
+    cycle[26] |= 1;    /* the base of type 0 is type 1 */
+    cycle[33] |= 0x80; /* and that of type 1 is type 0 */
+
+    print_model(tour, sizeof tour, 2 * SEGMENTS);
+    print_model(tour, sizeof tour, 2 * SEGMENTS + 3);
+    print_model(tour, sizeof tour, 2 * SEGMENTS - 1);
+    print_model(tour, sizeof tour - 1, 2 * SEGMENTS);
+    print_model(cycle, sizeof cycle, 2 * SEGMENTS);
+    print_instance(visit, sizeof visit);
+    print_instance(visit, sizeof visit - 1);
+    print_walk(BINDING, 0, 0, room);
+    print_walk(BINDING, 1, 0, room);
+    print_walk(BINDING, 0, 1, room);
+    print_walk(BINDING, 0, 0, room - 1);
+
+    /* Nothing lent at all. */
+    printf("%llu\n", (unsigned long long)tour_check_model(NULL, 0, NULL, 0));
+    printf("%llu\n", (unsigned long long)tour_check_instance(NULL, 0, NULL, 0));
+    printf("%llu\n", (unsigned long long)tour_walk(NULL, 0, NULL, 0, 0, 0, 0, NULL, 0));
+    return 0;
+}
