@@ -495,7 +495,8 @@ TOLD = ("why", "buffer", "resolves", "leaves", "at", "results")
 def read_texts():
     sections = {}
     for folder in ("models", "instances"):
-        for file in sorted(os.listdir(os.path.join(HERE, folder))):
+        at = os.path.join(HERE, folder)
+        for file in sorted(os.listdir(at)) if os.path.isdir(at) else []:
             if not file.endswith(".txt"):
                 continue
             section = None

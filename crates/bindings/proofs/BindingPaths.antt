@@ -1,8 +1,8 @@
 -- Rule 19 out of the codes of a binding's paths. Assumes nothing.
 use Prim.Native.Nat.{ℕ, _≤_}
-use mathlib.Core.Path.{_≡_, refl, sym, _∙_, ap, ap₂}
+use mathlib.Core.Path.{_≡_, sym, ap, ap₂}
 use mathlib.Core.List.{List, []}
-use mathlib.Core.Bool.{Bool, true, false, _||_, or-assoc}
+use mathlib.Core.Bool.{Bool, _||_, or-assoc}
 use lib.ListN.{length}
 use Rattle.csdl.specs.Tables.{childType, bindingChild, bindingPath, bindingTarget, bindingTargetPath}
 use Rattle.csdl.specs.Model.{modelOf}

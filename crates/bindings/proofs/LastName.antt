@@ -1,6 +1,6 @@
 -- The last name of a path, and its form. Assumes nothing.
 use Prim.Native.Nat.{ℕ, zero, suc, _-_, _<_}
-use mathlib.Core.Path.{_≡_, refl, sym, _∙_, ap}
+use mathlib.Core.Path.{_≡_, refl, sym}
 use mathlib.Core.List.{List}
 use mathlib.Core.Bool.{Bool, true, false, not, _||_}
 use native.Mathlib.Omega.{arith}

@@ -1,8 +1,8 @@
 -- Rule 17 out of the codes of a partner path. Assumes nothing.
 use Prim.Native.Nat.{ℕ, _≤_}
-use mathlib.Core.Path.{_≡_, refl, sym, _∙_, ap, ap₂}
+use mathlib.Core.Path.{_≡_, refl, ap, ap₂}
 use mathlib.Core.List.{List, []}
-use mathlib.Core.Bool.{Bool, true, false, not, _&&_, _||_}
+use mathlib.Core.Bool.{Bool, true, false, not, _||_}
 use lib.ListN.{length}
 use borrow.Author.Tests.{ne-eqb}
 use Rattle.csdl.specs.Tables.{propertyTypeRef, propertyPartner}

@@ -1,7 +1,7 @@
 -- Rule 19, of the codes of a binding's paths.
-use Prim.Native.Nat.{ℕ, _-_}
+use Prim.Native.Nat.{ℕ}
 use mathlib.Core.List.{List}
-use mathlib.Core.Bool.{Bool, true, cond, not, _&&_, _||_}
+use mathlib.Core.Bool.{Bool, not, _&&_, _||_}
 use lib.Dec.{eqb}
 use lib.ListN.{getD}
 use Rattle.csdl.specs.Search.{anyFrom}

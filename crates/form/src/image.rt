@@ -1,6 +1,6 @@
 // The header of a model image, where its parts begin, and rules 1 and 2.
 ghost use mathlib.Core.Path.{_≡_};
-ghost use Prim.Native.Nat.{_≤_, _<_};
+ghost use Prim.Native.Nat.{_<_};
 ghost use Rattle.csdl.specs.Image as images;
 use packed::field16;
 

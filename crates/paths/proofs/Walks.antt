@@ -1,13 +1,12 @@
 -- The codes of a path, as the rules read them in the model of all tables. Assumes nothing.
 use Prim.Native.Nat.{ℕ, _-_, _≤_}
-use mathlib.Core.Path.{_≡_, refl, sym, _∙_, ap, ap₂}
+use mathlib.Core.Path.{_≡_, sym, _∙_, ap, ap₂}
 use mathlib.Core.List.{List, []}
 use mathlib.Core.Bool.{Bool, not, _||_, or-assoc}
-use native.Mathlib.Omega.{arith}
 use lib.ListN.{length, getD}
 use Rattle.csdl.specs.Search.{anyFrom}
 use Rattle.csdl.specs.Tables.{keyOwner, keyPath, propertyOwner, propertyTypeRef, constraintProperty, constraintDependent, constraintPrincipal}
-use Rattle.csdl.specs.Model.{Model, modelOf}
+use Rattle.csdl.specs.Model.{modelOf}
 use Rattle.csdl.specs.Find.{complexStep, ofKind, ancestor, find, own, declares}
 use Rattle.csdl.specs.Path.{Kind, startOf, pathOf, stepsOf, pathSteps}
 use Rattle.csdl.specs.Path.Kind.{key, dependent, principal}

@@ -5,7 +5,7 @@ ghost use mathlib.Core.Bool.{_||_};
 ghost use Prim.Native.Nat.{_≤_, _<_};
 ghost use lib.ListN.{length};
 ghost use Rattle.csdl.specs.Model.{modelOf};
-ghost use Rattle.csdl.specs.Paths.{keyName, key15a, key15b, key15c, key15d, key15e, key15f, key15g, key15h, key15};
+ghost use Rattle.csdl.specs.Paths.{keyName, key15b, key15c, key15d, key15e, key15f, key15g, key15h, key15};
 ghost use Rattle.paths.specs.Keys.{againNamed};
 use crate::steps::StepTest;
 use crate::steps::step_or_end;

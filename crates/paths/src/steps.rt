@@ -1,9 +1,8 @@
 // The tests that the rules put to the steps of a path.
 ghost use mathlib.Core.Path.{_≡_};
 ghost use mathlib.Core.List.{[]};
-ghost use mathlib.Core.Bool.{_||_};
 ghost use Prim.Native.Nat.{_≤_, _<_, _-_};
-ghost use lib.ListN.{length, getD};
+ghost use lib.ListN.{length};
 ghost use Rattle.csdl.specs.Model.{modelOf};
 ghost use Rattle.csdl.specs.Paths.{keyCode, keyType, keyStep, keyEnd, constraintStep, crosses, targetStep};
 ghost use Rattle.trail.specs.Trail.{isCode, numberOf};

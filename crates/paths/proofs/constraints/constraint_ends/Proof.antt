@@ -1,6 +1,5 @@
 use Rattle.csdl.specs.Model.{modelOf}
-use Rattle.csdl.specs.Find.{ofKind}
-use Rattle.csdl.specs.Paths.{sameShape, bothComplex}
+use Rattle.csdl.specs.Paths.{sameShape}
 use Rattle.paths.specs.Constraints.{otherShape, otherNullable, constraintEnds}
 use borrow.Author.Needs.{needs}
 use Rattle.paths.proofs.constraints.constraint_ends.Statement.{statement}

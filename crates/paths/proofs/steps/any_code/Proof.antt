@@ -1,8 +1,7 @@
 use Prim.Native.Nat.{_-_, _<_}
-use mathlib.Core.Path.{_≡_}
 use mathlib.Core.List.{[]}
 use native.Mathlib.Omega.{arith}
-use lib.ListN.{length, getD}
+use lib.ListN.{getD}
 use Rattle.csdl.specs.Model.{modelOf}
 use Rattle.trail.specs.Trail.{isCode}
 use Rattle.lookup.proofs.Loops.{Any, any-start, any-hit, any-next, any-end}

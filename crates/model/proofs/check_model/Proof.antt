@@ -1,0 +1,53 @@
+use mathlib.Core.Path.{sym, _∙_}
+use Rattle.form.proofs.Parts.{layout}
+use Rattle.model.proofs.Answers.{short, roomy, answer-bad, answer-short, answer-accepted, answer-refused, can-resolve, has-room}
+use borrow.Author.Needs.{needs}
+use Rattle.model.proofs.check_model.Statement.{statement}
+use Rattle.model.proofs.check_model.Tie as tie
+
+returns : tie.Need-returns
+returns c = answer-bad _ _ (sym (c .before .bad-image .ensures) ∙ c .if1 .taken)
+
+returns-2 : tie.Need-returns-2
+returns-2 c =
+    let good = sym (c .before .before .before .bad-image .ensures) ∙ c .before .before .if1 .left in
+    answer-short _ _ good (short _ _ _ (c .before .header .ensures) (c .if2 .taken))
+
+check-parts-requires : tie.Need-check-parts-requires
+check-parts-requires c κs = layout _ (sym (c .before .before .before .bad-image .ensures) ∙ c .before .before .if1 .left)
+
+write-parts-requires : tie.Need-write-parts-requires
+write-parts-requires c κs =
+    let e = c .before .before .before .before in
+    let good = sym (e .before .before .before .before .bad-image .ensures) ∙ e .before .before .before .if1 .left in
+    (layout _ good, can-resolve _ good _ _ (e .check-parts .ensures) (c .before .before .answer .given .1), has-room _ good _ _ (e .before .before .header .ensures) (e .before .if2 .left))
+
+returns-3 : tie.Need-returns-3
+returns-3 c =
+    let e = c .before .before .before .before .before .before .before in
+    let good = sym (e .before .before .before .before .bad-image .ensures) ∙ e .before .before .before .if1 .left in
+    answer-accepted _ _ good (roomy _ _ _ (e .before .before .header .ensures) (e .before .if2 .left)) _ (e .check-parts .ensures) _ (c .before .before .before .before .before .answer .given .1) _ (c .before .before .write-parts .ensures)
+
+returns-4 : tie.Need-returns-4
+returns-4 c =
+    let e = c .before .before .before in
+    let good = sym (e .before .before .before .before .bad-image .ensures) ∙ e .before .before .before .if1 .left in
+    answer-refused _ _ good (roomy _ _ _ (e .before .before .header .ensures) (e .before .if2 .left)) _ (e .check-parts .ensures) _ _ (c .before .answer2 .given .1)
+
+pub check-model-spec : {M : Type 1} → statement M
+check-model-spec =
+    tie.close
+    (tie.spec
+    (λ c κs. search needs)
+    returns
+    (λ c κs. search needs)
+    (λ c. search needs)
+    (λ c. search needs)
+    returns-2
+    check-parts-requires
+    (λ c. search needs)
+    write-parts-requires
+    (λ c. search needs)
+    (λ c. search needs)
+    returns-3
+    returns-4)

@@ -1,0 +1,44 @@
+// The functions that the exam portal, written in C, calls. A slice is a pointer and then a length; buffers may not overlap.
+// The result is one 64-bit number: a refusal is rule * 2^32 + place, and the rule is never 0; an accepted model is its number of
+// segments, an accepted instance is 0, and a walk is results * 65536 + opened slots. outside/c/tour_model.h says the same for C.
+ghost use mathlib.Core.Path.{_≡_};
+ghost use Prim.Native.Nat.{_+_, _*_};
+ghost use Rattle.csdl.specs.Conforms.{instanceAnswer};
+ghost use Rattle.csdl.specs.Verdict.{modelAnswer, modelBuffer};
+ghost use Rattle.portal.specs.Word.{word};
+use conformance::check_instance;
+use csdl::InstanceAnswer;
+use csdl::ModelAnswer;
+use model::check_model;
+
+// A refusal's two numbers in one.
+fn refusal(rule: u16, place: u16) -> u64
+    ensures { λ r. ⌜ r ≡ rule * 4294967296 + place ⌝ }
+{
+    (rule as u64) * 4294967296 + (place as u64)
+}
+
+// Checks a model; an accepted one has the resolution of its segments written into the buffer, two bytes each.
+#[no_mangle]
+pub extern "C" fn tour_check_model(image: &[u8], resolution: &mut [u8]) -> u64
+    ensures { λ r. ⌜ r ≡ word (modelAnswer (now (image .entry)) (now (resolution .entry))) ⌝ }
+    ensures { λ r. ⌜ now (resolution .exit) ≡ modelBuffer (now (image .entry)) (now (resolution .entry)) ⌝ }
+{
+    let answer = check_model(image, resolution);
+    match answer {
+        ModelAnswer::Accepted { segments } => segments as u64,
+        ModelAnswer::Refused { rule, place } => refusal(rule, place),
+    }
+}
+
+// Checks an instance against its model.
+#[no_mangle]
+pub extern "C" fn tour_check_instance(model: &[u8], instance: &[u8]) -> u64
+    ensures { λ r. ⌜ r ≡ word (instanceAnswer (now (model .entry)) (now (instance .entry))) ⌝ }
+{
+    let answer = check_instance(model, instance);
+    match answer {
+        InstanceAnswer::Conforms => 0,
+        InstanceAnswer::Refused { rule, place } => refusal(rule, place),
+    }
+}

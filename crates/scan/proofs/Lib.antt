@@ -1,0 +1,4 @@
+pub mod Finding
+pub mod Frame
+pub mod Order
+pub mod Tables

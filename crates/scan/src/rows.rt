@@ -1,0 +1,149 @@
+// A rule asked of the records of one table, by their numbers.
+ghost use mathlib.Core.Path.{_≡_};
+ghost use mathlib.Core.List.{[]};
+ghost use Prim.Native.Nat.{_+_, _≤_};
+ghost use lib.ListN.{length};
+ghost use Rattle.csdl.specs.Search.{firstFrom};
+ghost use Rattle.csdl.specs.Tables.{typeCount};
+ghost use Rattle.csdl.specs.Model.{modelOf};
+ghost use Rattle.csdl.specs.Properties.{type12};
+ghost use Rattle.scan.specs.Limits.{Limits};
+ghost use Rattle.scan.specs.Rows.{rowTest, shifted};
+use bindings::bindings::binding_19;
+use bindings::children::child_18;
+use bindings::children::property_18;
+use bindings::partners::property_17;
+use form::repeats::child_7;
+use form::repeats::type_7;
+use form::schemas::schema_6;
+use paths::constraints::constraint_16;
+use paths::keys::key_15;
+use typing::properties::property_10;
+use typing::redeclared::property_11;
+use typing::required::type_12;
+use typing::required::types_on_cycles;
+use typing::types::type_8;
+use typing::types::type_9;
+
+// The rules that speak of the records of one table, each with its table.
+pub enum TableRule {
+    Schema6,
+    Type7,
+    Child7,
+    Type8,
+    Type9,
+    Property10,
+    Property11,
+    Key15,
+    Constraint16,
+    Property17,
+    Property18,
+    Child18,
+    Binding19,
+}
+
+// Whether record k of the rule's table breaks it.
+fn row_breaks(
+    schemas: &[u8],
+    types: &[u8],
+    properties: &[u8],
+    keys: &[u8],
+    constraints: &[u8],
+    children: &[u8],
+    bindings: &[u8],
+    segments: &[u8],
+    names: &[u8],
+    rule: TableRule,
+    k: u16,
+) -> bool
+    requires { ⌜ Limits (now schemas) (now types) (now properties) (now keys) (now constraints) (now children) (now bindings) (now segments) ⌝ }
+    ensures { λ r. ⌜ r ≡ rowTest (modelOf (now (schemas .entry)) (now (types .entry)) (now (properties .entry)) (now (keys .entry)) (now (constraints .entry)) (now (children .entry)) (now (bindings .entry)) (now (segments .entry)) (now (names .entry))) rule k ⌝ }
+{
+    match rule {
+        TableRule::Schema6 => schema_6(schemas, names, k),
+        TableRule::Type7 => type_7(types, names, k),
+        TableRule::Child7 => child_7(children, names, k),
+        TableRule::Type8 => type_8(types, k),
+        TableRule::Type9 => type_9(types, k),
+        TableRule::Property10 => property_10(types, properties, k),
+        TableRule::Property11 => property_11(types, properties, names, k),
+        TableRule::Key15 => key_15(types, properties, keys, segments, names, k),
+        TableRule::Constraint16 => constraint_16(
+            types,
+            properties,
+            constraints,
+            segments,
+            names,
+            k,
+        ),
+        TableRule::Property17 => property_17(types, properties, segments, names, k),
+        TableRule::Property18 => property_18(types, properties, keys, k),
+        TableRule::Child18 => child_18(types, keys, children, k),
+        TableRule::Binding19 => binding_19(
+            types,
+            properties,
+            children,
+            bindings,
+            segments,
+            names,
+            k,
+        ),
+    }
+}
+
+// The first of n records that breaks the rule, as a place, where the table's records start at place `at`: 0 for none, else the place and 1.
+pub fn first_row(
+    schemas: &[u8],
+    types: &[u8],
+    properties: &[u8],
+    keys: &[u8],
+    constraints: &[u8],
+    children: &[u8],
+    bindings: &[u8],
+    segments: &[u8],
+    names: &[u8],
+    rule: TableRule,
+    at: u16,
+    n: u16,
+) -> u16
+    requires { ⌜ Limits (now schemas) (now types) (now properties) (now keys) (now constraints) (now children) (now bindings) (now segments) ⌝ }
+    requires { ⌜ (at ≤ 2048) × (n ≤ 1024) ⌝ }
+    ensures { λ r. ⌜ r ≡ shifted at (firstFrom (rowTest (modelOf (now (schemas .entry)) (now (types .entry)) (now (properties .entry)) (now (keys .entry)) (now (constraints .entry)) (now (children .entry)) (now (bindings .entry)) (now (segments .entry)) (now (names .entry))) rule) 0 n) ⌝ }
+{
+    let mut k: u16 = 0;
+    while k < n {
+        if row_breaks(
+            schemas,
+            types,
+            properties,
+            keys,
+            constraints,
+            children,
+            bindings,
+            segments,
+            names,
+            rule,
+            k,
+        ) {
+            return at + k + 1;
+        }
+        k += 1;
+    }
+    0
+}
+
+// The same of rule 12, of types, whose cycles are found once.
+pub fn first_12(types: &[u8], properties: &[u8], at: u16, n: u16) -> u16
+    requires { ⌜ (length (now types) ≤ 384) × (length (now properties) ≤ 3584) × (at ≤ 2048) × (n ≤ typeCount (now types)) ⌝ }
+    ensures { λ r. ⌜ r ≡ shifted at (firstFrom (λ t. type12 (modelOf [] (now (types .entry)) (now (properties .entry)) [] [] [] [] [] []) t) 0 n) ⌝ }
+{
+    let cycles = types_on_cycles(types, properties);
+    let mut t: u16 = 0;
+    while t < n {
+        if type_12(types, properties, cycles, t) {
+            return at + t + 1;
+        }
+        t += 1;
+    }
+    0
+}
