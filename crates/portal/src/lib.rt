@@ -5,11 +5,14 @@ ghost use mathlib.Core.Path.{_≡_};
 ghost use Prim.Native.Nat.{_+_, _*_};
 ghost use Rattle.csdl.specs.Conforms.{instanceAnswer};
 ghost use Rattle.csdl.specs.Verdict.{modelAnswer, modelBuffer};
+ghost use Rattle.csdl.specs.Walk.{walkAnswer, walkBuffer};
 ghost use Rattle.portal.specs.Word.{word};
 use conformance::check_instance;
 use csdl::InstanceAnswer;
 use csdl::ModelAnswer;
+use csdl::WalkAnswer;
 use model::check_model;
+use walk::walk;
 
 // A refusal's two numbers in one.
 fn refusal(rule: u16, place: u16) -> u64
@@ -40,5 +43,28 @@ pub extern "C" fn tour_check_instance(model: &[u8], instance: &[u8]) -> u64
     match answer {
         InstanceAnswer::Conforms => 0,
         InstanceAnswer::Refused { rule, place } => refusal(rule, place),
+    }
+}
+
+// Walks a path of the record at a place from a node; the results are written into the buffer as items.
+#[no_mangle]
+pub extern "C" fn tour_walk(
+    model: &[u8],
+    instance: &[u8],
+    place: u32,
+    path: u32,
+    node: u32,
+    results: &mut [u8],
+) -> u64
+    ensures { λ r. ⌜ r ≡ word (walkAnswer (now (model .entry)) (now (instance .entry)) place path node (now (results .entry))) ⌝ }
+    ensures { λ r. ⌜ now (results .exit) ≡ walkBuffer (now (model .entry)) (now (instance .entry)) place path node (now (results .entry)) ⌝ }
+{
+    let answer = walk(model, instance, place, path, node, results);
+    match answer {
+        WalkAnswer::Walked {
+            results: count,
+            opened,
+        } => (count as u64) * 65536 + (opened as u64),
+        WalkAnswer::Refused { rule, place: at } => refusal(rule, at),
     }
 }

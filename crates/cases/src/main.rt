@@ -1,0 +1,47 @@
+// Runs the stored cases. Each line of the file `list` names a check and the file of its image; the program prints the verdict of
+// each, a line to a case, and the bytes of the lent buffer that the line asks for.
+mod line;
+mod models;
+mod print;
+
+// One case: `m`, the check of a model.
+fn run(text: &[u8]) {
+    io::write_all(1, line::name(text));
+    io::write_all(1, b" ");
+    match line::letter(text) {
+        b'm' => models::check(text),
+        _ => {
+            io::write_all(1, b"unknown");
+        }
+    }
+    io::write_all(1, b"\n");
+}
+
+// Reads a line, runs its case and answers whether to go on.
+fn run_next(fd: i32) -> bool {
+    let mut text = [0u8; line::SIZE];
+    let n = io::read_full(fd, &mut text);
+    if n < line::SIZE {
+        return false;
+    }
+    run(&text);
+    true
+}
+
+// A proved loop has to end, so it counts its turns down, from a number that no run uses up.
+fn run_all(fd: i32) {
+    let mut turns = u64::MAX;
+    while turns > 0 && run_next(fd) {
+        turns -= 1;
+    }
+}
+
+fn main() {
+    let fd = os::open_read(b"list");
+    if fd < 0 {
+        os::fail(b"list");
+        return;
+    }
+    run_all(fd);
+    libc::close(fd);
+}

@@ -1,0 +1,43 @@
+// The check of a stored model.
+ghost use Rattle.io.specs.Counts.{Counts};
+use crate::line;
+use crate::print;
+use csdl::ModelAnswer;
+
+// A byte more than the largest image of a model, so that one that is too long is seen to be.
+pub const MODEL_SIZE: usize = 13349;
+
+// What each byte of a buffer holds before the call.
+pub const FILL: u8 = 238;
+
+// Reads a file into the array and answers how many bytes it has; 0 where it cannot be opened.
+pub fn load(path: &[u8], image: &mut [u8]) -> usize
+    ensures { λ r. ⌜ Counts r (now (image .exit)) ⌝ }
+{
+    let fd = os::open_read(path);
+    if fd < 0 {
+        os::fail(path);
+        return 0;
+    }
+    let n = io::read_full(fd, image);
+    libc::close(fd);
+    n
+}
+
+pub fn check(text: &[u8]) {
+    let mut image = [0u8; MODEL_SIZE];
+    let n = load(line::model(text), &mut image);
+    let mut buffer = [FILL; 4096];
+    let answer = check_lent(&image[..n], &mut buffer, line::lent(text));
+    print::model(answer);
+    print::bytes(b" buffer ", &buffer, line::shown(text));
+}
+
+// The check with the first bytes of the buffer lent, or all of it where it has not so many.
+fn check_lent(image: &[u8], buffer: &mut [u8], lent: u32) -> ModelAnswer {
+    let n = lent as usize;
+    if n < buffer.len() {
+        return model::check_model(image, &mut buffer[..n]);
+    }
+    model::check_model(image, buffer)
+}

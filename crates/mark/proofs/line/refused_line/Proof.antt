@@ -1,0 +1,52 @@
+use Prim.Native.Nat.{_≤_}
+use mathlib.Core.Path.{sym, _∙_}
+use lib.ListN.{length}
+use lib.Seq.{length-take-le}
+use Rattle.mark.specs.Text.{refusedLine, refused, place}
+use borrow.Author.Needs.{needs}
+use Rattle.mark.proofs.line.refused_line.Statement.{statement}
+use Rattle.mark.proofs.line.refused_line.Tie as tie
+
+slice-aggregate-put-word : tie.Need-slice-aggregate-put-word
+slice-aggregate-put-word c = search needs
+
+put-word-requires : tie.Need-put-word-requires
+put-word-requires c κs = search needs
+
+put-decimal-requires : tie.Need-put-decimal-requires
+put-decimal-requires c κs = search needs
+
+slice-aggregate-put-word-2 : tie.Need-slice-aggregate-put-word-2
+slice-aggregate-put-word-2 c = search needs
+
+put-word-requires-2 : tie.Need-put-word-requires-2
+put-word-requires-2 c κs = search needs
+
+put-decimal-requires-2 : tie.Need-put-decimal-requires-2
+put-decimal-requires-2 c κs = search needs
+
+put-byte-requires : tie.Need-put-byte-requires
+put-byte-requires c κs = search needs
+
+returns : tie.Need-returns
+unfolding refusedLine refused place
+returns c =
+    let b = c .put-byte in
+    let whole = c .before .before .put-decimal2 in
+    let middle = c .before .before .before .before .put-word2 in
+    let number = c .before .before .before .before .before .before .before .put-decimal in
+    let word = c .before .before .before .before .before .before .before .before .before .put-word in
+    let within : b .result ≤ length (b .last .0) = search needs in ((within, sym (length-take-le (b .result) (b .last .0) within)), b .ensures .1 ∙ rw (whole .ensures .1, middle .ensures .1, number .ensures .1, word .ensures .1))
+
+pub refused-line-spec : {M : Type 1} → statement M
+refused-line-spec =
+    tie.close
+    (tie.spec
+    slice-aggregate-put-word
+    put-word-requires
+    put-decimal-requires
+    slice-aggregate-put-word-2
+    put-word-requires-2
+    put-decimal-requires-2
+    put-byte-requires
+    returns)

@@ -1,0 +1,185 @@
+-- The answer of a walk and what it leaves in the buffer, case by case, by the definitions and by demand 3.
+use Prim.Native.Nat.{ℕ, _+_, _*_, _/_, _≤_, _<_}
+use mathlib.Core.Path.{_≡_, refl, sym, ap, _∙_}
+use mathlib.Core.List.{List, [], _∷_, _++_}
+use mathlib.Core.Bool.{Bool, true, false, false≢true, cond, not}
+use mathlib.Core.Logic.{inl, inr, ⊎-elim}
+use native.Mathlib.Nat.{zero-add}
+use native.Mathlib.Omega.{arith}
+use lib.ListN.{length, drop}
+use lib.Seq.{sets, sets-eq}
+use lib.Dec.{ltb}
+use borrow.Author.Tests.{ltb-true, ltb-false, not-false}
+use Rattle.csdl.specs.Search.{flat}
+use Rattle.csdl.specs.Model.{Model}
+use Rattle.csdl.specs.Find.{isAt}
+use Rattle.csdl.specs.Image.{modelIn, image1}
+use Rattle.csdl.specs.Path.{pathOf, startOf}
+use Rattle.csdl.specs.Instance.{Instance, instanceIn, image20, itemBytes}
+use Rattle.csdl.specs.Conforms.{instanceAnswer}
+use Rattle.csdl.specs.Verdict.{Answer, Stage, verdict}
+use Rattle.csdl.specs.Verdict.Answer.{accepted, refused}
+use Rattle.csdl.specs.Verdict.Stage.{whole}
+use Rattle.csdl.specs.Walk.{bytesOfItem, chosenStart, walk27, walk28, walk29, walkPath, walkResults, walkOpened, walkAnswer, resultBytes, walkBuffer}
+use Rattle.csdl.specs.Walk.Chosen.{none, chosen}
+use Rattle.csdl.specs.Accepted.{InstancePasses}
+use Rattle.csdl.proofs.Logic.{or-no}
+use Rattle.csdl.proofs.Verdicts.{instance-accepts, instance-refuses, instance-then-refuses}
+use Rattle.nodes.proofs.Sizes.{sized}
+use Rattle.segments.specs.Kinds.{kindOf}
+use Rattle.soundness.proofs.Counts.{bytes-length}
+use Rattle.soundness.proofs.Demands.{results-are, opened-are, not-refused, opened-at-most, results-at-most, results-fit-buffer}
+use Rattle.traverse.specs.Chosen.{choiceOf}
+use Rattle.walk.specs.Along.{bytesAlong, openedAlong}
+
+is-chosen : (kind holder : ℕ) → walk27 (choiceOf kind holder) ≡ false → choiceOf kind holder ≡ chosen (kindOf kind) holder
+unfolding choiceOf
+is-chosen kind holder = go (ltb kind 6)
+  where
+    go : (b : Bool) → walk27 (cond b (chosen (kindOf kind) holder) none) ≡ false → cond b (chosen (kindOf kind) holder) none ≡ chosen (kindOf kind) holder
+    go true e = refl
+    go false e = absurd (false≢true (sym e))
+
+module _ (model image : List ℕ) (place n v : ℕ) (buffer : List ℕ) where
+  -- What a walk owes where it answers so and leaves the buffer so.
+  abbrev pub Owed : Answer → List ℕ → Type 0
+  Owed answer out = (answer ≡ walkAnswer model image place n v buffer) × (out ≡ walkBuffer model image place n v buffer)
+
+  abbrev m : Model
+  m = modelIn model
+
+  abbrev i : Instance
+  i = instanceIn image
+
+  abbrev stages : List Stage
+  stages =
+      whole 27 (walk27 (walkPath model place n)) ∷ whole 28 (walk28 m i (chosenStart m (walkPath model place n)) v) ∷ whole 29 (walk29 i buffer) ∷ []
+
+  abbrev counts : Answer
+  counts = accepted (length (walkResults model image place n v) ∷ length (walkOpened model image place n v) ∷ [])
+
+  -- A refusal leaves every byte.
+  refusing : (rule at : ℕ) → walkAnswer model image place n v buffer ≡ refused rule at → Owed (refused rule at) buffer
+  unfolding walkBuffer
+  refusing rule at e = (sym e, rw e)
+
+  -- A refusal of the check of the instance is one of the walk.
+  pub refused-before : (rule at : ℕ) → instanceAnswer model image ≡ refused rule at → Owed (refused rule at) buffer
+  unfolding walkAnswer
+  refused-before rule at e =
+      refusing rule at
+      (instance-then-refuses model image (verdict 0 stages counts) rule at .1
+      (⊎-elim (λ low. inl low) (λ h. inr (h .0, inl (h .1))) (instance-refuses model image rule at .0 e)))
+
+  module _ (conforms : instanceAnswer model image ≡ accepted []) where
+    passes : InstancePasses model image
+    passes = instance-accepts model image .0 conforms
+
+    pub keeps-1 : image1 model ≡ false
+    keeps-1 = passes .model-passes .kept1
+
+    pub keeps-20 : image20 image ≡ false
+    keeps-20 = passes .kept20
+
+    refused-by : (rule : ℕ) → verdict 0 stages counts ≡ refused rule 0 → Owed (refused rule 0) buffer
+    unfolding walkAnswer
+    refused-by rule e =
+        refusing rule 0 (instance-then-refuses model image (verdict 0 stages counts) rule 0 .1 (inr (passes .model-passes, inr (passes, e))))
+
+    -- Rules 27, 28 and 29, in that order.
+    module _ (kind holder : ℕ) (choice : choiceOf kind holder ≡ walkPath model place n) where
+      pub refused-27 : walk27 (choiceOf kind holder) ≡ true → Owed (refused 27 0) buffer
+      unfolding verdict
+      refused-27 e = let z : walk27 (walkPath model place n) ≡ true = rw (← choice) e in refused-by 27 (rw z)
+
+      module _ (a : walk27 (choiceOf kind holder) ≡ false) where
+        path-is : walkPath model place n ≡ chosen (kindOf kind) holder
+        path-is = sym choice ∙ is-chosen kind holder a
+
+        pub refused-28 : walk28 m i (startOf m (kindOf kind) holder) v ≡ true → Owed (refused 28 0) buffer
+        unfolding verdict
+        refused-28 e = refused-by 28 (rw (path-is, e))
+
+        module _ (b : walk28 m i (startOf m (kindOf kind) holder) v ≡ false) where
+          pub refused-29 : walk29 i buffer ≡ true → Owed (refused 29 0) buffer
+          unfolding verdict
+          refused-29 e = refused-by 29 (rw (path-is, b, e))
+
+          there : v < i .nodes
+          unfolding walk28
+          there =
+              ltb-true v (i .nodes)
+              (not-false (ltb v (i .nodes)) (or-no (not (ltb v (i .nodes))) (not (isAt m (startOf m (kindOf kind) holder) (i .nodeType v))) b .0))
+
+          fitting : isAt m (startOf m (kindOf kind) holder) (i .nodeType v) ≡ true
+          unfolding walk28
+          fitting =
+              not-false (isAt m (startOf m (kindOf kind) holder) (i .nodeType v))
+              (or-no (not (ltb v (i .nodes))) (not (isAt m (startOf m (kindOf kind) holder) (i .nodeType v))) b .1)
+
+          pub start-small : v < 256
+          start-small = let z = sized image keeps-20 in omega (arith, there, z .nodes-count, z .nodes-most)
+
+          -- Else the walk: its results fit, its counts are small, and it answers them.
+          module _ (d : walk29 i buffer ≡ false) (first count : ℕ) (f : first ≡ pathOf m (kindOf kind) holder .first) (c : count ≡ pathOf m (kindOf kind) holder .count) where
+            room : itemBytes * (1 + i .slots + i .items) ≤ length buffer
+            unfolding walk29
+            room = ltb-false (length buffer) (itemBytes * (1 + i .slots + i .items)) d
+
+            bytes-are : bytesAlong model image first count v ≡ resultBytes model image place n v
+            unfolding bytesAlong resultBytes
+            bytes-are = rw (f, c) (ap (flat (λ x. bytesOfItem x)) (sym (results-are model image conforms place n (kindOf kind) holder path-is v there fitting)))
+
+            slots-are : openedAlong model image first count v ≡ walkOpened model image place n v
+            unfolding openedAlong
+            slots-are = rw (f, c) (sym (opened-are model image conforms place n (kindOf kind) holder path-is v there fitting))
+
+            pub bytes-fit : length (bytesAlong model image first count v) ≤ length buffer
+            bytes-fit =
+                omega (
+                  arith,
+                  ap length bytes-are,
+                  results-fit-buffer model image conforms place n (kindOf kind) holder path-is v there fitting,
+                  room,
+                )
+
+            pub few-opened : length (openedAlong model image first count v) < 65536
+            few-opened =
+                let z = sized image keeps-20 in
+                omega (
+                  arith,
+                  ap length slots-are,
+                  opened-at-most model image conforms place n (kindOf kind) holder path-is v there fitting,
+                  z .slots-count,
+                  z .slots-most,
+                )
+
+            four-each : length (bytesAlong model image first count v) ≡ 4 * length (walkResults model image place n v)
+            unfolding resultBytes
+            four-each = ap length bytes-are ∙ bytes-length (walkResults model image place n v)
+
+            pub few-results : length (bytesAlong model image first count v) ≤ 12292
+            few-results =
+                let z = sized image keeps-20 in
+                omega (
+                  arith,
+                  four-each,
+                  results-at-most model image conforms place n (kindOf kind) holder path-is v there fitting,
+                  z .slots-count,
+                  z .slots-most,
+                  z .items-count,
+                  z .items-most,
+                )
+
+            pub answered : {end opened : ℕ} {out : List ℕ} → out ≡ sets buffer 0 (bytesAlong model image first count v) →
+                end ≡ length (bytesAlong model image first count v) → opened ≡ length (openedAlong model image first count v) →
+                Owed (accepted (end / 4 ∷ opened ∷ [])) out
+            unfolding walkBuffer
+            answered {end} {opened} {out} x y z =
+                let w = not-refused model image conforms place n (kindOf kind) holder path-is v there fitting buffer room in
+                let e : end / 4 ≡ length (walkResults model image place n v) = omega (arith, y, four-each) in
+                let o : opened ≡ length (walkOpened model image place n v) = z ∙ ap length slots-are in
+                let b = bytesAlong model image first count v in
+                let s : sets buffer 0 b ≡ b ++ drop (length b) buffer =
+                sets-eq b buffer 0 (omega (arith, bytes-fit)) ∙ ap (λ (k : ℕ). b ++ drop k buffer) (zero-add (length b)) in
+                (rw (e, o) (sym w), rw w (x ∙ s ∙ ap (λ (l : List ℕ). l ++ drop (length l) buffer) bytes-are))
