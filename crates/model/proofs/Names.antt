@@ -89,7 +89,7 @@ module _ (image : List ℕ) (place : ℕ) where
       let q : recordName image place ≡ noName = named e ∙ name-past-end (modelIn image) place (omega (arith, n, l)) in
       rw q
 
-  pub name-found : (names : List ℕ) (start size : ℕ) → image1 image ≡ false → start ≡ nameAt (modelIn image) place .start → size ≡ nameAt (modelIn image) place .size
-      → names ≡ between image (namesFrom image) (imageEnd image) → part names start size ≡ nameOfRecord image place
+  pub name-found : (start size a e : ℕ) → image1 image ≡ false → start ≡ nameAt (modelIn image) place .start → size ≡ nameAt (modelIn image) place .size
+      → a ≡ namesFrom image → e ≡ imageEnd image → part (between image a e) start size ≡ nameOfRecord image place
   unfolding nameOfRecord modelIn modelOf
-  name-found names start size good s z e = rw (named good, s, z, e)
+  name-found start size a e good s z x y = rw (named good, s, z, x, y)

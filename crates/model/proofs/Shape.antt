@@ -1,7 +1,8 @@
--- The parts of an image that keeps rule 1, as the code cuts them, and the model of those parts. Assumes nothing.
+-- The parts of an image that keeps rule 1, as the code cuts them. Assumes nothing.
 use Prim.Native.Nat.{ℕ, _+_, _*_, _≤_}
 use mathlib.Core.Path.{_≡_, refl, sym, ap, _∙_}
 use mathlib.Core.List.{List, [], _∷_, _++_}
+use native.Mathlib.Omega.{arith}
 use lib.ListN.{length, drop}
 use Rattle.packed.specs.Bytes.{between}
 use Rattle.csdl.specs.Tables.{segmentCount}
@@ -9,54 +10,62 @@ use Rattle.csdl.specs.Model.{Model, modelOf}
 use Rattle.csdl.specs.Image.{modelIn, typesFrom, propertiesFrom, keysFrom, constraintsFrom, childrenFrom, bindingsFrom, segmentsFrom, namesFrom, imageEnd}
 use Rattle.csdl.specs.Verdict.{Answer, modelVerdict, resolution}
 use Rattle.csdl.specs.Verdict.Answer.{accepted}
+use Rattle.form.proofs.Parts.{Layout, parts}
 use Rattle.resolution.specs.Written.{Resolvable}
 use Rattle.resolution.proofs.Whole.{without-schemas, same-resolution}
+use Rattle.scan.specs.Limits.{Limits}
 
--- A part, cut at numbers that are its bounds.
-pub cut-part : (image : List ℕ) (a e start end most : ℕ) → a ≡ start → e ≡ end → length (between image start end) ≤ most
-    → (between image a e ≡ between image start end) × (length (between image a e) ≤ most)
-cut-part image a e start end most p q h = (rw (p, q), rw (p, q) h)
+-- Where the code cuts the image: a to i, where each part but the first begins, and where the last ends.
+module _ (image : List ℕ) (a b c d e f g h i : ℕ) (ea : a ≡ typesFrom image) (eb : b ≡ propertiesFrom image) (ec : c ≡ keysFrom image)
+    (ed : d ≡ constraintsFrom image) (ee : e ≡ childrenFrom image) (ef : f ≡ bindingsFrom image) (eg : g ≡ segmentsFrom image)
+    (eh : h ≡ namesFrom image) (ei : i ≡ imageEnd image) where
+  abbrev cut : List ℕ → Model
+  cut schemas =
+      modelOf schemas (between image a b) (between image b c) (between image c d) (between image d e) (between image e f) (between image f g)
+      (between image g h) (between image h i)
 
--- The nine parts of the image.
-module _ (image sc ty pr ke co ch bi sg nm : List ℕ) (esc : sc ≡ between image 20 (typesFrom image)) (ety : ty ≡ between image (typesFrom image) (propertiesFrom image))
-    (epr : pr ≡ between image (propertiesFrom image) (keysFrom image)) (eke : ke ≡ between image (keysFrom image) (constraintsFrom image))
-    (eco : co ≡ between image (constraintsFrom image) (childrenFrom image)) (ech : ch ≡ between image (childrenFrom image) (bindingsFrom image))
-    (ebi : bi ≡ between image (bindingsFrom image) (segmentsFrom image)) (esg : sg ≡ between image (segmentsFrom image) (namesFrom image))
-    (enm : nm ≡ between image (namesFrom image) (imageEnd image)) where
-  pub whole-model : modelOf sc ty pr ke co ch bi sg nm ≡ modelIn image
+  pub limits : Layout image → Limits (between image 20 a) (between image a b) (between image b c) (between image c d) (between image d e) (between image e f) (between image f g) (between image g h)
+  limits l =
+      rw (ea, eb, ec, ed, ee, ef, eg, eh)
+      (let p = parts image l in
+      record {
+        schemas-most = omega (arith, p .schemas);
+        types-most = omega (arith, p .types);
+        properties-most = omega (arith, p .properties);
+        keys-most = omega (arith, p .keys);
+        constraints-most = omega (arith, p .constraints);
+        children-most = omega (arith, p .children);
+        bindings-most = omega (arith, p .bindings);
+        segments-most = omega (arith, p .segments);
+      })
+
+  pub whole-model : cut (between image 20 a) ≡ modelIn image
   unfolding modelIn
-  whole-model = rw (esc, ety, epr, eke, eco, ech, ebi, esg, enm)
+  whole-model = rw (ea, eb, ec, ed, ee, ef, eg, eh, ei)
 
-  segments-counted : segmentCount sg ≡ modelIn image .segments
+  segments-counted : segmentCount (between image g h) ≡ modelIn image .segments
   unfolding modelIn modelOf
-  segments-counted = rw esg
+  segments-counted = rw (eg, eh)
 
-  pub whole-verdict : modelVerdict (modelOf sc ty pr ke co ch bi sg nm) (accepted (segmentCount sg ∷ [])) ≡ modelVerdict (modelIn image) (accepted (modelIn image .segments ∷ []))
+  pub whole-verdict : modelVerdict (cut (between image 20 a)) (accepted (segmentCount (between image g h) ∷ [])) ≡ modelVerdict (modelIn image) (accepted (modelIn image .segments ∷ []))
   whole-verdict = rw (whole-model, segments-counted)
 
--- The resolution does not read the schemas.
-module _ (image ty pr ke co ch bi sg nm : List ℕ) (ety : ty ≡ between image (typesFrom image) (propertiesFrom image))
-    (epr : pr ≡ between image (propertiesFrom image) (keysFrom image)) (eke : ke ≡ between image (keysFrom image) (constraintsFrom image))
-    (eco : co ≡ between image (constraintsFrom image) (childrenFrom image)) (ech : ch ≡ between image (childrenFrom image) (bindingsFrom image))
-    (ebi : bi ≡ between image (bindingsFrom image) (segmentsFrom image)) (esg : sg ≡ between image (segmentsFrom image) (namesFrom image))
-    (enm : nm ≡ between image (namesFrom image) (imageEnd image)) where
-  with-schemas : modelOf (between image 20 (typesFrom image)) ty pr ke co ch bi sg nm ≡ modelIn image
-  with-schemas = whole-model image (between image 20 (typesFrom image)) ty pr ke co ch bi sg nm refl ety epr eke eco ech ebi esg enm
-
-  bare-segments : modelOf [] ty pr ke co ch bi sg nm .segments ≡ modelIn image .segments
+  -- The resolution does not read the schemas.
+  cut-segments : cut [] .segments ≡ modelIn image .segments
   unfolding modelIn modelOf
-  bare-segments = rw esg
+  cut-segments = rw (eg, eh)
 
-  pub bare-resolvable : Resolvable (modelIn image) → Resolvable (modelOf [] ty pr ke co ch bi sg nm)
-  bare-resolvable r = without-schemas (between image 20 (typesFrom image)) ty pr ke co ch bi sg nm (rw with-schemas r)
+  pub cut-resolvable : Resolvable (modelIn image) → Resolvable (cut [])
+  cut-resolvable r =
+      without-schemas (between image 20 a) (between image a b) (between image b c) (between image c d) (between image d e) (between image e f)
+      (between image f g) (between image g h) (between image h i) (rw whole-model r)
 
-  pub bare-fits : (n : ℕ) → 2 * modelIn image .segments ≤ n → 2 * modelOf [] ty pr ke co ch bi sg nm .segments ≤ n
-  bare-fits n q = rw bare-segments q
+  pub cut-fits : (n : ℕ) → 2 * modelIn image .segments ≤ n → 2 * cut [] .segments ≤ n
+  cut-fits n q = rw cut-segments q
 
-  pub bare-written : (out : List ℕ) → resolution (modelOf [] ty pr ke co ch bi sg nm) ++ drop (2 * modelOf [] ty pr ke co ch bi sg nm .segments) out
-      ≡ resolution (modelIn image) ++ drop (2 * modelIn image .segments) out
-  bare-written out =
-      let r : resolution (modelOf [] ty pr ke co ch bi sg nm) ≡ resolution (modelIn image) =
-      sym (same-resolution (between image 20 (typesFrom image)) ty pr ke co ch bi sg nm) ∙ ap (λ (m : Model). resolution m) with-schemas in
-      ap (λ (l : List ℕ). l ++ drop (2 * modelOf [] ty pr ke co ch bi sg nm .segments) out) r
-      ∙ ap (λ (n : ℕ). resolution (modelIn image) ++ drop (2 * n) out) bare-segments
+  pub cut-written : (out : List ℕ) → resolution (cut []) ++ drop (2 * cut [] .segments) out ≡ resolution (modelIn image) ++ drop (2 * modelIn image .segments) out
+  cut-written out =
+      let r : resolution (cut []) ≡ resolution (modelIn image) =
+      sym (same-resolution (between image 20 a) (between image a b) (between image b c) (between image c d) (between image d e) (between image e f) (between image f g) (between image g h) (between image h i))
+      ∙ ap (λ (m : Model). resolution m) whole-model in
+      ap (λ (l : List ℕ). l ++ drop (2 * cut [] .segments) out) r ∙ ap (λ (n : ℕ). resolution (modelIn image) ++ drop (2 * n) out) cut-segments

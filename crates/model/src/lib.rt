@@ -9,15 +9,15 @@ ghost use Rattle.csdl.specs.Naming.{nameOfRecord};
 use csdl::ModelAnswer;
 use form::image::bad_image;
 use form::image::header;
-use packed::part_of;
-use parts::names_of;
-use wholes::check_parts;
-use wholes::name_part;
-use wholes::write_parts;
+use form::image::image_end;
+use form::image::names_from;
+use parts::check_parts;
+use parts::name_part;
+use parts::write_parts;
+use records::fields::text_of;
 
 pub mod naming;
 pub mod parts;
-mod wholes;
 
 // The check without rule 2, as the later calls have it.
 pub fn check_rules(image: &[u8]) -> ModelAnswer
@@ -61,7 +61,7 @@ pub fn name_record(image: &[u8], place: u32) -> &[u8]
         return &image[..0];
     }
     let n = name_part(image, place as u16);
-    let start = n.start;
-    let size = n.size;
-    part_of(names_of(image), start, size)
+    let names = names_from(image) as usize;
+    let end = image_end(image) as usize;
+    text_of(&image[names..end], n)
 }

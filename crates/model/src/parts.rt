@@ -1,10 +1,16 @@
-// The parts of an image that keeps rule 1: the tables in order, then the name bytes.
+// The parts of an image that keeps rule 1, handed to the functions over its tables.
 ghost use mathlib.Core.Path.{_≡_};
-ghost use Prim.Native.Nat.{_≤_};
-ghost use lib.ListN.{length};
-ghost use Rattle.packed.specs.Bytes.{between};
-ghost use Rattle.csdl.specs.Image.{typesFrom, propertiesFrom, keysFrom, constraintsFrom, childrenFrom, bindingsFrom, segmentsFrom, namesFrom, imageEnd};
+ghost use mathlib.Core.List.{[], _∷_, _++_};
+ghost use Prim.Native.Nat.{_+_, _*_, _≤_, _<_};
+ghost use lib.ListN.{length, drop};
+ghost use Rattle.csdl.specs.Image.{modelIn};
+ghost use Rattle.csdl.specs.Verdict as verdicts;
+ghost use Rattle.csdl.specs.Verdict.Answer.{accepted};
 ghost use Rattle.form.proofs.Parts.{Layout};
+ghost use Rattle.resolution.specs.Written.{Resolvable};
+ghost use Rattle.model.specs.Named.{nameAt};
+use crate::naming::name_at;
+use csdl::ModelAnswer;
 use form::image::bindings_from;
 use form::image::children_from;
 use form::image::constraints_from;
@@ -14,83 +20,88 @@ use form::image::names_from;
 use form::image::properties_from;
 use form::image::segments_from;
 use form::image::types_from;
+use records::fields::Name;
+use resolution::write_resolution;
+use scan::stages::first_broken;
 
-pub fn schemas_of(image: &[u8]) -> &[u8]
+// Rules 3 to 19.
+pub fn check_parts(image: &[u8]) -> ModelAnswer
     requires { ⌜ Layout (now image) ⌝ }
-    ensures { λ r. ⌜ (now r ≡ between (now (image .entry)) 20 (typesFrom (now (image .entry)))) × (length (now r) ≤ 80) ⌝ }
+    ensures { λ r. ⌜ verdicts.modelMeans r ≡ verdicts.modelVerdict (modelIn (now (image .entry))) (accepted ((modelIn (now (image .entry))) .segments ∷ [])) ⌝ }
 {
-    let end = types_from(image) as usize;
-    &image[20..end]
-}
-
-pub fn types_of(image: &[u8]) -> &[u8]
-    requires { ⌜ Layout (now image) ⌝ }
-    ensures { λ r. ⌜ (now r ≡ between (now (image .entry)) (typesFrom (now (image .entry))) (propertiesFrom (now (image .entry)))) × (length (now r) ≤ 384) ⌝ }
-{
-    let start = types_from(image) as usize;
-    let end = properties_from(image) as usize;
-    &image[start..end]
-}
-
-pub fn properties_of(image: &[u8]) -> &[u8]
-    requires { ⌜ Layout (now image) ⌝ }
-    ensures { λ r. ⌜ (now r ≡ between (now (image .entry)) (propertiesFrom (now (image .entry))) (keysFrom (now (image .entry)))) × (length (now r) ≤ 3584) ⌝ }
-{
-    let start = properties_from(image) as usize;
-    let end = keys_from(image) as usize;
-    &image[start..end]
-}
-
-pub fn keys_of(image: &[u8]) -> &[u8]
-    requires { ⌜ Layout (now image) ⌝ }
-    ensures { λ r. ⌜ (now r ≡ between (now (image .entry)) (keysFrom (now (image .entry))) (constraintsFrom (now (image .entry)))) × (length (now r) ≤ 768) ⌝ }
-{
-    let start = keys_from(image) as usize;
-    let end = constraints_from(image) as usize;
-    &image[start..end]
-}
-
-pub fn constraints_of(image: &[u8]) -> &[u8]
-    requires { ⌜ Layout (now image) ⌝ }
-    ensures { λ r. ⌜ (now r ≡ between (now (image .entry)) (constraintsFrom (now (image .entry))) (childrenFrom (now (image .entry)))) × (length (now r) ≤ 320) ⌝ }
-{
-    let start = constraints_from(image) as usize;
-    let end = children_from(image) as usize;
-    &image[start..end]
-}
-
-pub fn children_of(image: &[u8]) -> &[u8]
-    requires { ⌜ Layout (now image) ⌝ }
-    ensures { λ r. ⌜ (now r ≡ between (now (image .entry)) (childrenFrom (now (image .entry))) (bindingsFrom (now (image .entry)))) × (length (now r) ≤ 256) ⌝ }
-{
-    let start = children_from(image) as usize;
-    let end = bindings_from(image) as usize;
-    &image[start..end]
-}
-
-pub fn bindings_of(image: &[u8]) -> &[u8]
-    requires { ⌜ Layout (now image) ⌝ }
-    ensures { λ r. ⌜ (now r ≡ between (now (image .entry)) (bindingsFrom (now (image .entry))) (segmentsFrom (now (image .entry)))) × (length (now r) ≤ 768) ⌝ }
-{
-    let start = bindings_from(image) as usize;
-    let end = segments_from(image) as usize;
-    &image[start..end]
-}
-
-pub fn segments_of(image: &[u8]) -> &[u8]
-    requires { ⌜ Layout (now image) ⌝ }
-    ensures { λ r. ⌜ (now r ≡ between (now (image .entry)) (segmentsFrom (now (image .entry))) (namesFrom (now (image .entry)))) × (length (now r) ≤ 3072) ⌝ }
-{
-    let start = segments_from(image) as usize;
-    let end = names_from(image) as usize;
-    &image[start..end]
-}
-
-pub fn names_of(image: &[u8]) -> &[u8]
-    requires { ⌜ Layout (now image) ⌝ }
-    ensures { λ r. ⌜ (now r ≡ between (now (image .entry)) (namesFrom (now (image .entry))) (imageEnd (now (image .entry)))) × (length (now r) ≤ 4096) ⌝ }
-{
-    let start = names_from(image) as usize;
+    let types = types_from(image) as usize;
+    let properties = properties_from(image) as usize;
+    let keys = keys_from(image) as usize;
+    let constraints = constraints_from(image) as usize;
+    let children = children_from(image) as usize;
+    let bindings = bindings_from(image) as usize;
+    let segments = segments_from(image) as usize;
+    let names = names_from(image) as usize;
     let end = image_end(image) as usize;
-    &image[start..end]
+    first_broken(
+        &image[20..types],
+        &image[types..properties],
+        &image[properties..keys],
+        &image[keys..constraints],
+        &image[constraints..children],
+        &image[children..bindings],
+        &image[bindings..segments],
+        &image[segments..names],
+        &image[names..end],
+    )
+}
+
+// The name of the record at a place.
+pub fn name_part(image: &[u8], place: u16) -> Name
+    requires { ⌜ Layout (now image) ⌝ }
+    ensures { λ r. ⌜ (r .start ≡ nameAt (modelIn (now (image .entry))) place .start) × (r .size ≡ nameAt (modelIn (now (image .entry))) place .size) ⌝ }
+{
+    let types = types_from(image) as usize;
+    let properties = properties_from(image) as usize;
+    let keys = keys_from(image) as usize;
+    let constraints = constraints_from(image) as usize;
+    let children = children_from(image) as usize;
+    let bindings = bindings_from(image) as usize;
+    let segments = segments_from(image) as usize;
+    let names = names_from(image) as usize;
+    let end = image_end(image) as usize;
+    name_at(
+        &image[20..types],
+        &image[types..properties],
+        &image[properties..keys],
+        &image[keys..constraints],
+        &image[constraints..children],
+        &image[children..bindings],
+        &image[bindings..segments],
+        &image[segments..names],
+        &image[names..end],
+        place,
+    )
+}
+
+// The resolution of the segments, for a model that keeps the rules.
+pub fn write_parts(image: &[u8], out: &mut [u8])
+    requires { ⌜ Layout (now image) × Resolvable (modelIn (now image)) × (2 * (modelIn (now image)) .segments ≤ length (now out)) ⌝ }
+    ensures { λ r. ⌜ now (out .exit) ≡ verdicts.resolution (modelIn (now (image .entry))) ++ drop (2 * (modelIn (now (image .entry))) .segments) (now (out .entry)) ⌝ }
+{
+    let types = types_from(image) as usize;
+    let properties = properties_from(image) as usize;
+    let keys = keys_from(image) as usize;
+    let constraints = constraints_from(image) as usize;
+    let children = children_from(image) as usize;
+    let bindings = bindings_from(image) as usize;
+    let segments = segments_from(image) as usize;
+    let names = names_from(image) as usize;
+    let end = image_end(image) as usize;
+    write_resolution(
+        &image[types..properties],
+        &image[properties..keys],
+        &image[keys..constraints],
+        &image[constraints..children],
+        &image[children..bindings],
+        &image[bindings..segments],
+        &image[segments..names],
+        &image[names..end],
+        out,
+    );
 }
