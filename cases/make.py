@@ -1,7 +1,8 @@
 #!/usr/bin/env python3
 """Makes the images that the program `cases` runs, and the sheet of verdicts, from the texts of this folder.
 
-    python3 cases/make.py                  write crates/cases/data, crates/cases/stdout, crates/mark/stdin and stdout
+    python3 cases/make.py                  write crates/cases/data, crates/cases/stdout, crates/mark/stdin and stdout,
+                                           crates/explain/stdin and crates/explanations/data
     python3 cases/make.py --check          write nothing; fail if one of these files is not what the texts say
     python3 cases/make.py --image NAME     write the image of one case to standard output (for `mark`, or a hex dump)
     python3 cases/make.py --list           print the name, the verdict and the reason of each case
@@ -16,8 +17,11 @@ import sys
 HERE = os.path.dirname(os.path.abspath(__file__))
 ROOT = os.path.dirname(HERE)
 
-# The example whose image is the standard input of `mark`.
+# The example whose image is the standard input of `mark` and `explain`.
 EXAMPLE = "a-worked-example"
+
+# The names of the cases whose images the program `explanations` explains.
+EXPLAINED = "crates/explanations/args"
 
 PRIMITIVES = ("Binary Boolean Byte Date DateTimeOffset Decimal Double Duration Guid Int16 Int32 Int64 SByte Single "
               "Stream String TimeOfDay").split()
@@ -670,6 +674,9 @@ def outputs():
     out["crates/cases/stdout"] = "".join(r.sheet_line() for r in runs).encode()
     out["crates/mark/stdin"] = files["models/" + EXAMPLE]
     out["crates/mark/stdout"] = mark_lines(sections[EXAMPLE], Model(sections[EXAMPLE].lines))
+    out["crates/explain/stdin"] = files["models/" + EXAMPLE]
+    for name in open(os.path.join(ROOT, EXPLAINED)).read().split():
+        out["crates/explanations/data/" + name] = files["models/" + name]
     return sections, files, runs, out
 
 
@@ -704,7 +711,7 @@ def main(arguments):
         for r in runs:
             print(f"{r.name:<42}{r.verdict:<26}{sections[r.name].told.get('why', '')}")
         return
-    extra = stored("crates/cases/data") - set(out)
+    extra = (stored("crates/cases/data") | stored("crates/explanations/data")) - set(out)
     if arguments == ["--check"]:
         wrong = sorted(extra)
         for name, data in out.items():

@@ -4,6 +4,7 @@ ghost use mathlib.Core.List.{[]};
 ghost use mathlib.Core.Bool.{_||_};
 ghost use Prim.Native.Nat.{_≤_};
 ghost use lib.ListN.{length};
+ghost use Rattle.lookup.specs.Index.{Indexed};
 ghost use Rattle.csdl.specs.Model.{modelOf};
 ghost use Rattle.csdl.specs.Path.{pathEnd};
 ghost use Rattle.csdl.specs.Path.Kind.{binding, target};
@@ -75,9 +76,10 @@ fn path_walk(
     bindings: &[u8],
     segments: &[u8],
     names: &[u8],
+    index: &[u16],
     b: u16,
 ) -> Walk
-    requires { ⌜ (length (now types) ≤ 384) × (length (now properties) ≤ 3584) ⌝ }
+    requires { ⌜ (length (now types) ≤ 384) × (length (now properties) ≤ 3584) × Indexed (now properties) (now names) (now index) ⌝ }
     ensures { λ w. ⌜ w .fails ≡ binding19abc (modelOf [] (now (types .entry)) (now (properties .entry)) [] [] (now (children .entry)) (now (bindings .entry)) (now (segments .entry)) (now (names .entry))) b ⌝ }
     ensures { λ w. ⌜ w .end ≡ pathEnd (modelOf [] (now (types .entry)) (now (properties .entry)) [] [] (now (children .entry)) (now (bindings .entry)) (now (segments .entry)) (now (names .entry))) binding b ⌝ }
 {
@@ -85,7 +87,7 @@ fn path_walk(
     let first = run.first;
     let n = run.count;
     let start = child_type(children, binding_child(bindings, b));
-    let trail = trail_of(types, properties, segments, names, start, first, n);
+    let trail = trail_of(types, properties, segments, names, index, start, first, n);
     let codes = trail.codes;
     let fails = binding_codes(types, properties, &codes, n);
     Walk {
@@ -102,9 +104,10 @@ fn target_walk(
     bindings: &[u8],
     segments: &[u8],
     names: &[u8],
+    index: &[u16],
     b: u16,
 ) -> Walk
-    requires { ⌜ (length (now types) ≤ 384) × (length (now properties) ≤ 3584) ⌝ }
+    requires { ⌜ (length (now types) ≤ 384) × (length (now properties) ≤ 3584) × Indexed (now properties) (now names) (now index) ⌝ }
     ensures { λ w. ⌜ w .fails ≡ (binding19f (modelOf [] (now (types .entry)) (now (properties .entry)) [] [] (now (children .entry)) (now (bindings .entry)) (now (segments .entry)) (now (names .entry))) b || binding19g (modelOf [] (now (types .entry)) (now (properties .entry)) [] [] (now (children .entry)) (now (bindings .entry)) (now (segments .entry)) (now (names .entry))) b) ⌝ }
     ensures { λ w. ⌜ w .end ≡ pathEnd (modelOf [] (now (types .entry)) (now (properties .entry)) [] [] (now (children .entry)) (now (bindings .entry)) (now (segments .entry)) (now (names .entry))) target b ⌝ }
 {
@@ -112,7 +115,7 @@ fn target_walk(
     let first = run.first;
     let n = run.count;
     let start = child_type(children, binding_target(bindings, b));
-    let trail = trail_of(types, properties, segments, names, start, first, n);
+    let trail = trail_of(types, properties, segments, names, index, start, first, n);
     let codes = trail.codes;
     let fails = target_codes(types, properties, &codes, n);
     Walk {
@@ -129,13 +132,32 @@ pub fn binding_19(
     bindings: &[u8],
     segments: &[u8],
     names: &[u8],
+    index: &[u16],
     b: u16,
 ) -> bool
-    requires { ⌜ (length (now types) ≤ 384) × (length (now properties) ≤ 3584) ⌝ }
+    requires { ⌜ (length (now types) ≤ 384) × (length (now properties) ≤ 3584) × Indexed (now properties) (now names) (now index) ⌝ }
     ensures { λ r. ⌜ r ≡ binding19 (modelOf [] (now (types .entry)) (now (properties .entry)) [] [] (now (children .entry)) (now (bindings .entry)) (now (segments .entry)) (now (names .entry))) b ⌝ }
 {
-    let path = path_walk(types, properties, children, bindings, segments, names, b);
-    let goal = target_walk(types, properties, children, bindings, segments, names, b);
+    let path = path_walk(
+        types,
+        properties,
+        children,
+        bindings,
+        segments,
+        names,
+        index,
+        b,
+    );
+    let goal = target_walk(
+        types,
+        properties,
+        children,
+        bindings,
+        segments,
+        names,
+        index,
+        b,
+    );
     path.fails
         | binding_again(bindings, segments, names, b)
         | target_under_set(children, bindings, b)

@@ -5,6 +5,7 @@ ghost use mathlib.Core.Bool.{Bool, not, _&&_};
 ghost use Prim.Native.Nat.{ℕ, _≤_, _<_};
 ghost use lib.ListN.{length};
 ghost use lib.Dec.{eqb};
+ghost use Rattle.lookup.specs.Index.{Indexed};
 ghost use Rattle.csdl.specs.Tables.{propertyPartner};
 ghost use Rattle.csdl.specs.Model.{modelOf, present};
 ghost use Rattle.csdl.specs.Path.{pathSteps, isProperty};
@@ -29,15 +30,22 @@ use trail::codes::last_code;
 use trail::resolve::trail_of;
 
 // The code of the last step of the partner path of p; that of a cast where it has none.
-fn partner_code(types: &[u8], properties: &[u8], segments: &[u8], names: &[u8], p: u16) -> u32
-    requires { ⌜ (length (now types) ≤ 384) × (length (now properties) ≤ 3584) ⌝ }
+fn partner_code(
+    types: &[u8],
+    properties: &[u8],
+    segments: &[u8],
+    names: &[u8],
+    index: &[u16],
+    p: u16,
+) -> u32
+    requires { ⌜ (length (now types) ≤ 384) × (length (now properties) ≤ 3584) × Indexed (now properties) (now names) (now index) ⌝ }
     ensures { λ r. ⌜ ((test : ℕ → Bool) → isCode test r ≡ isProperty test (lastStep (pathSteps (modelOf [] (now (types .entry)) (now (properties .entry)) [] [] [] [] (now (segments .entry)) (now (names .entry))) partner p))) ⌝ }
 {
     let run = property_partner(properties, p);
     let first = run.first;
     let n = run.count;
     let start = property_type_ref(properties, p);
-    let trail = trail_of(types, properties, segments, names, start, first, n);
+    let trail = trail_of(types, properties, segments, names, index, start, first, n);
     let codes = trail.codes;
     last_code(&codes, n)
 }
@@ -57,17 +65,18 @@ fn other_partner(
     properties: &[u8],
     segments: &[u8],
     names: &[u8],
+    index: &[u16],
     p: u16,
     q: u16,
 ) -> bool
-    requires { ⌜ (length (now types) ≤ 384) × (length (now properties) ≤ 3584) ⌝ }
+    requires { ⌜ (length (now types) ≤ 384) × (length (now properties) ≤ 3584) × Indexed (now properties) (now names) (now index) ⌝ }
     ensures { λ r. ⌜ r ≡ otherPartner (modelOf [] (now (types .entry)) (now (properties .entry)) [] [] [] [] (now (segments .entry)) (now (names .entry))) p q ⌝ }
 {
     let run = property_partner(properties, q);
     if run.count == 0 {
         return false;
     }
-    let code = partner_code(types, properties, segments, names, q);
+    let code = partner_code(types, properties, segments, names, index, q);
     !((code < 32768) & (code == p as u32))
 }
 
@@ -100,10 +109,11 @@ fn other_contained(
     properties: &[u8],
     segments: &[u8],
     names: &[u8],
+    index: &[u16],
     p: u16,
     q: u16,
 ) -> bool
-    requires { ⌜ (length (now types) ≤ 384) × (length (now properties) ≤ 3584) ⌝ }
+    requires { ⌜ (length (now types) ≤ 384) × (length (now properties) ≤ 3584) × Indexed (now properties) (now names) (now index) ⌝ }
     ensures { λ r. ⌜ r ≡ otherContained (modelOf [] (now (types .entry)) (now (properties .entry)) [] [] [] [] (now (segments .entry)) (now (names .entry))) p q ⌝ }
 {
     if !other_with_partner(properties, p, q) {
@@ -116,7 +126,7 @@ fn other_contained(
     ) {
         return false;
     }
-    let code = partner_code(types, properties, segments, names, q);
+    let code = partner_code(types, properties, segments, names, index, q);
     if code >= 32768 {
         return false;
     }
@@ -129,10 +139,11 @@ fn shared_containment(
     properties: &[u8],
     segments: &[u8],
     names: &[u8],
+    index: &[u16],
     p: u16,
     q: u16,
 ) -> bool
-    requires { ⌜ (length (now types) ≤ 384) × (length (now properties) ≤ 3584) ⌝ }
+    requires { ⌜ (length (now types) ≤ 384) × (length (now properties) ≤ 3584) × Indexed (now properties) (now names) (now index) ⌝ }
     ensures { λ r. ⌜ r ≡ sharedContainment (modelOf [] (now (types .entry)) (now (properties .entry)) [] [] [] [] (now (segments .entry)) (now (names .entry))) p q ⌝ }
 {
     if !property_contains(properties, q) {
@@ -141,7 +152,7 @@ fn shared_containment(
     let n = property_count(properties);
     let mut x: u16 = 0;
     while x < n {
-        if other_contained(types, properties, segments, names, p, x) {
+        if other_contained(types, properties, segments, names, index, p, x) {
             return true;
         }
         x += 1;
@@ -155,10 +166,11 @@ fn partner_ends(
     properties: &[u8],
     segments: &[u8],
     names: &[u8],
+    index: &[u16],
     p: u16,
     q: u16,
 ) -> bool
-    requires { ⌜ (length (now types) ≤ 384) × (length (now properties) ≤ 3584) ⌝ }
+    requires { ⌜ (length (now types) ≤ 384) × (length (now properties) ≤ 3584) × Indexed (now properties) (now names) (now index) ⌝ }
     ensures { λ r. ⌜ r ≡ partnerEnds (modelOf [] (now (types .entry)) (now (properties .entry)) [] [] [] [] (now (segments .entry)) (now (names .entry))) p q ⌝ }
 {
     !is_at(
@@ -166,14 +178,21 @@ fn partner_ends(
         property_type_ref(properties, q),
         property_owner(properties, p),
     )
-        | other_partner(types, properties, segments, names, p, q)
+        | other_partner(types, properties, segments, names, index, p, q)
         | contained_partner(types, properties, p, q)
-        | shared_containment(types, properties, segments, names, p, q)
+        | shared_containment(types, properties, segments, names, index, p, q)
 }
 
 // Whether property p breaks rule 17.
-pub fn property_17(types: &[u8], properties: &[u8], segments: &[u8], names: &[u8], p: u16) -> bool
-    requires { ⌜ (length (now types) ≤ 384) × (length (now properties) ≤ 3584) ⌝ }
+pub fn property_17(
+    types: &[u8],
+    properties: &[u8],
+    segments: &[u8],
+    names: &[u8],
+    index: &[u16],
+    p: u16,
+) -> bool
+    requires { ⌜ (length (now types) ≤ 384) × (length (now properties) ≤ 3584) × Indexed (now properties) (now names) (now index) ⌝ }
     ensures { λ r. ⌜ r ≡ property17 (modelOf [] (now (types .entry)) (now (properties .entry)) [] [] [] [] (now (segments .entry)) (now (names .entry))) p ⌝ }
 {
     let run = property_partner(properties, p);
@@ -183,9 +202,9 @@ pub fn property_17(types: &[u8], properties: &[u8], segments: &[u8], names: &[u8
         return false;
     }
     let start = property_type_ref(properties, p);
-    let trail = trail_of(types, properties, segments, names, start, first, n);
+    let trail = trail_of(types, properties, segments, names, index, start, first, n);
     let codes = trail.codes;
     let q = number_of(last_code(&codes, n));
     partner_codes(types, properties, &codes, n)
-        | partner_ends(types, properties, segments, names, p, q)
+        | partner_ends(types, properties, segments, names, index, p, q)
 }

@@ -21,6 +21,11 @@ pub fn model(text: &[u8]) -> &[u8] {
     column(text, 43, 50)
 }
 
+// The file of the instance's image.
+pub fn instance(text: &[u8]) -> &[u8] {
+    column(text, 94, 50)
+}
+
 // How many bytes of the buffer are lent.
 pub fn lent(text: &[u8]) -> u32 {
     number(packed::part_of(text, 145, 5))
@@ -29,6 +34,19 @@ pub fn lent(text: &[u8]) -> u32 {
 // How many bytes of the buffer are printed.
 pub fn shown(text: &[u8]) -> u32 {
     number(packed::part_of(text, 151, 5))
+}
+
+// The place, the path and the start node of a walk.
+pub fn place(text: &[u8]) -> u32 {
+    number(packed::part_of(text, 157, 10))
+}
+
+pub fn path(text: &[u8]) -> u32 {
+    number(packed::part_of(text, 168, 10))
+}
+
+pub fn node(text: &[u8]) -> u32 {
+    number(packed::part_of(text, 179, 10))
 }
 
 // What stands in a column, without the blanks that pad it.

@@ -1,15 +1,18 @@
-// Runs the stored cases. Each line of the file `list` names a check and the file of its image; the program prints the verdict of
-// each, a line to a case, and the bytes of the lent buffer that the line asks for.
+// Runs the stored cases. Each line of the file `list` names a check or a walk and the files of its images; the program prints
+// the verdict of each, a line to a case, and the bytes of the lent buffer that the line asks for.
+mod instances;
 mod line;
 mod models;
 mod print;
 
-// One case: `m`, the check of a model.
+// One case: `m`, the check of a model; `i`, that of an instance; `w`, a walk.
 fn run(text: &[u8]) {
     io::write_all(1, line::name(text));
     io::write_all(1, b" ");
     match line::letter(text) {
         b'm' => models::check(text),
+        b'i' => instances::check(text),
+        b'w' => instances::walk(text),
         _ => {
             io::write_all(1, b"unknown");
         }

@@ -4,6 +4,7 @@ ghost use mathlib.Core.List.{[]};
 ghost use Prim.Native.Nat.{_-_, _+_, _≤_, _<_};
 ghost use lib.Dec.{eqb};
 ghost use lib.ListN.{length};
+ghost use Rattle.lookup.specs.Index.{Indexed};
 ghost use Rattle.csdl.specs.Search as search;
 ghost use Rattle.csdl.specs.Tables.{propertyCount};
 ghost use Rattle.csdl.specs.Model.{modelOf};
@@ -14,6 +15,7 @@ ghost use Rattle.conform.specs.Tables.{Holding};
 ghost use Rattle.conform.specs.Parts.{unlikeAt};
 use crate::runs::slots_of_items;
 use lookup::bases::is_at;
+use lookup::index::index_of;
 use lookup::kinds::structured;
 use lookup::names::is_name_of;
 use nodes::fields::item_count;
@@ -76,14 +78,14 @@ fn slots_of(slots: &[u8], first: u16, count: u16, p: u16) -> u16
 }
 
 // Whether p is one of t's names; its owner has to be t or an ancestor, which is cheap to see.
-fn name_of(types: &[u8], properties: &[u8], names: &[u8], t: u16, p: u16) -> bool
-    requires { ⌜ (length (now types) ≤ 384) × (length (now properties) ≤ 3584) ⌝ }
+fn name_of(types: &[u8], properties: &[u8], names: &[u8], index: &[u16], t: u16, p: u16) -> bool
+    requires { ⌜ (length (now types) ≤ 384) × (length (now properties) ≤ 3584) × Indexed (now properties) (now names) (now index) ⌝ }
     ensures { λ r. ⌜ r ≡ isNameOf (modelOf [] (now (types .entry)) (now (properties .entry)) [] [] [] [] [] (now (names .entry))) t p ⌝ }
 {
     if !is_at(types, property_owner(properties, p), t) {
         return false;
     }
-    is_name_of(types, properties, names, t, p)
+    is_name_of(types, properties, names, index, t, p)
 }
 
 // Whether the slots of a run that have property p are too many or too few for type t: one for a name of t, none for another.
@@ -91,16 +93,17 @@ fn slots_unlike(
     types: &[u8],
     properties: &[u8],
     names: &[u8],
+    index: &[u16],
     slots: &[u8],
     t: u16,
     first: u16,
     count: u16,
     p: u16,
 ) -> bool
-    requires { ⌜ (length (now types) ≤ 384) × (length (now properties) ≤ 3584) × (first < 2048) × (count < 1024) ⌝ }
+    requires { ⌜ (length (now types) ≤ 384) × (length (now properties) ≤ 3584) × (first < 2048) × (count < 1024) × Indexed (now properties) (now names) (now index) ⌝ }
     ensures { λ r. ⌜ r ≡ unlikeAt (modelOf [] (now (types .entry)) (now (properties .entry)) [] [] [] [] [] (now (names .entry))) (now (slots .entry)) t (record { first = first; count = count }) p ⌝ }
 {
-    slots_of(slots, first, count, p) != mark(name_of(types, properties, names, t, p))
+    slots_of(slots, first, count, p) != mark(name_of(types, properties, names, index, t, p))
 }
 
 // Whether that is so of any property.
@@ -108,18 +111,19 @@ fn any_unlike(
     types: &[u8],
     properties: &[u8],
     names: &[u8],
+    index: &[u16],
     slots: &[u8],
     t: u16,
     first: u16,
     count: u16,
 ) -> bool
-    requires { ⌜ (length (now types) ≤ 384) × (length (now properties) ≤ 3584) × (first < 2048) × (count < 1024) ⌝ }
+    requires { ⌜ (length (now types) ≤ 384) × (length (now properties) ≤ 3584) × (first < 2048) × (count < 1024) × Indexed (now properties) (now names) (now index) ⌝ }
     ensures { λ r. ⌜ r ≡ search.anyFrom (λ p. unlikeAt (modelOf [] (now (types .entry)) (now (properties .entry)) [] [] [] [] [] (now (names .entry))) (now (slots .entry)) t (record { first = first; count = count }) p) 0 (propertyCount (now (properties .entry))) ⌝ }
 {
     let n = property_count(properties);
     let mut p: u16 = 0;
     while p < n {
-        if slots_unlike(types, properties, names, slots, t, first, count, p) {
+        if slots_unlike(types, properties, names, index, slots, t, first, count, p) {
             return true;
         }
         p += 1;
@@ -132,11 +136,12 @@ pub fn node_23(
     types: &[u8],
     properties: &[u8],
     names: &[u8],
+    index: &[u16],
     nodes: &[u8],
     slots: &[u8],
     v: u16,
 ) -> bool
-    requires { ⌜ (length (now types) ≤ 384) × (length (now properties) ≤ 3584) ⌝ }
+    requires { ⌜ (length (now types) ≤ 384) × (length (now properties) ≤ 3584) × Indexed (now properties) (now names) (now index) ⌝ }
     ensures { λ r. ⌜ r ≡ node23 (modelOf [] (now (types .entry)) (now (properties .entry)) [] [] [] [] [] (now (names .entry))) (instanceOf (now (nodes .entry)) (now (slots .entry)) []) v ⌝ }
 {
     let run = node_slots(nodes, v);
@@ -144,6 +149,7 @@ pub fn node_23(
         types,
         properties,
         names,
+        index,
         slots,
         node_type(nodes, v),
         run.first,
@@ -243,20 +249,36 @@ pub fn first_22(types: &[u8], nodes: &[u8]) -> u16
     0
 }
 
-// The first node that breaks rule 23: 0 for none, else its number and 1.
-pub fn first_23(types: &[u8], properties: &[u8], names: &[u8], nodes: &[u8], slots: &[u8]) -> u16
-    requires { ⌜ (length (now types) ≤ 384) × (length (now properties) ≤ 3584) × (length (now nodes) ≤ 1024) ⌝ }
+// Rule 23 of the nodes one after the other.
+fn nodes_23(
+    types: &[u8],
+    properties: &[u8],
+    names: &[u8],
+    index: &[u16],
+    nodes: &[u8],
+    slots: &[u8],
+) -> u16
+    requires { ⌜ (length (now types) ≤ 384) × (length (now properties) ≤ 3584) × (length (now nodes) ≤ 1024) × Indexed (now properties) (now names) (now index) ⌝ }
     ensures { λ r. ⌜ (r ≡ search.firstFrom (λ v. node23 (modelOf [] (now (types .entry)) (now (properties .entry)) [] [] [] [] [] (now (names .entry))) (instanceOf (now (nodes .entry)) (now (slots .entry)) []) v) 0 (nodeCount (now (nodes .entry)))) × (r ≤ 256) ⌝ }
 {
     let n = node_count(nodes);
     let mut v: u16 = 0;
     while v < n {
-        if node_23(types, properties, names, nodes, slots, v) {
+        if node_23(types, properties, names, index, nodes, slots, v) {
             return v + 1;
         }
         v += 1;
     }
     0
+}
+
+// The first node that breaks rule 23: 0 for none, else its number and 1.
+pub fn first_23(types: &[u8], properties: &[u8], names: &[u8], nodes: &[u8], slots: &[u8]) -> u16
+    requires { ⌜ (length (now types) ≤ 384) × (length (now properties) ≤ 3584) × (length (now nodes) ≤ 1024) ⌝ }
+    ensures { λ r. ⌜ (r ≡ search.firstFrom (λ v. node23 (modelOf [] (now (types .entry)) (now (properties .entry)) [] [] [] [] [] (now (names .entry))) (instanceOf (now (nodes .entry)) (now (slots .entry)) []) v) 0 (nodeCount (now (nodes .entry)))) × (r ≤ 256) ⌝ }
+{
+    let index = index_of(properties, names);
+    nodes_23(types, properties, names, &index, nodes, slots)
 }
 
 // The first slot that breaks rule 24: 0 for none, else its number and 1.

@@ -1,13 +1,13 @@
 // The check of an instance: rules 1 and 3 to 19 of its model, then 20 to 26.
-pub mod parts;
+pub mod images;
 
 ghost use mathlib.Core.Path.{_≡_};
 ghost use Rattle.csdl.specs.Conforms.{instanceAnswer};
 ghost use Rattle.csdl.specs.Verdict.{instanceMeans};
 use csdl::InstanceAnswer;
 use csdl::ModelAnswer;
+use images::check_parts;
 use model::check_rules;
-use parts::check_parts;
 
 pub fn check_instance(model: &[u8], instance: &[u8]) -> InstanceAnswer
     ensures { λ r. ⌜ instanceMeans r ≡ instanceAnswer (now (model .entry)) (now (instance .entry)) ⌝ }

@@ -4,15 +4,10 @@ use mathlib.Core.Path.{_≡_, refl, sym, _∙_}
 use mathlib.Core.Bool.{Bool, true, false, cond}
 use native.Mathlib.Omega.{arith}
 use borrow.Author.Tests.{eq-eqb, ne-eqb}
-use Rattle.csdl.specs.Search.{orElse}
 use Rattle.csdl.specs.Climb.{climb, topmost, nearest}
 
 less-one : (l : ℕ) → suc l - 1 ≡ l
 less-one l = omega arith
-
-or-else-own : (o r : ℕ) → (o ≡ 0 → ⊥) → o ≡ orElse o r
-or-else-own zero r h = absurd (h refl)
-or-else-own (suc p) r h = refl
 
 pub climb-out : (next : ℕ → ℕ) (a t left : ℕ) → left ≡ 0 → false ≡ climb next left a t
 unfolding climb
@@ -21,10 +16,6 @@ climb-out next a t left h = rw h
 pub top-out : (next : ℕ → ℕ) (t left : ℕ) → left ≡ 0 → t ≡ topmost next left t
 unfolding topmost
 top-out next t left h = rw h
-
-pub nearest-out : (own next : ℕ → ℕ) (t left : ℕ) → left ≡ 0 → 0 ≡ nearest own next left t
-unfolding nearest
-nearest-out own next t left h = rw h
 
 module _ (next : ℕ → ℕ) (t b : ℕ) (e : b ≡ next t) where
   pub climb-none : (a left : ℕ) → b ≡ 0 → false ≡ climb next left a t
@@ -52,18 +43,7 @@ module _ (next : ℕ → ℕ) (t b : ℕ) (e : b ≡ next t) where
   top-up zero p n q = absurd (p refl)
   top-up (suc l) p n q = rw (← e, ne-eqb b 0 n) (rw less-one at q)
 
-module _ (own next : ℕ → ℕ) (t o : ℕ) (f : o ≡ own t) where
-  pub nearest-own : (left : ℕ) → (left ≡ 0 → ⊥) → (o ≡ 0 → ⊥) → o ≡ nearest own next left t
-  unfolding nearest
-  nearest-own zero p h = absurd (p refl)
-  nearest-own (suc l) p h = rw (← f) (or-else-own o _ h)
-
-  pub nearest-none : (left b : ℕ) → o ≡ 0 → b ≡ next t → b ≡ 0 → 0 ≡ nearest own next left t
-  unfolding nearest
-  nearest-none zero b z e h = refl
-  nearest-none (suc l) b z e h = rw (← f, z, ← e, eq-eqb b 0 h)
-
-  pub nearest-up : (left b : ℕ) → (left ≡ 0 → ⊥) → o ≡ 0 → b ≡ next t → (b ≡ 0 → ⊥) → {r : ℕ} → r ≡ nearest own next (left - 1) (b - 1) → r ≡ nearest own next left t
-  unfolding nearest
-  nearest-up zero b p z e h q = absurd (p refl)
-  nearest-up (suc l) b p z e h q = rw (← f, z, ← e, ne-eqb b 0 h) (rw less-one at q)
+pub nearest-none : (own next : ℕ → ℕ) (t o : ℕ) → o ≡ own t → (left b : ℕ) → o ≡ 0 → b ≡ next t → b ≡ 0 → 0 ≡ nearest own next left t
+unfolding nearest
+nearest-none own next t o f zero b z e h = refl
+nearest-none own next t o f (suc l) b z e h = rw (← f, z, ← e, eq-eqb b 0 h)

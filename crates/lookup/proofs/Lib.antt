@@ -1,3 +1,6 @@
 pub mod Climb
 pub mod Loops
+pub mod Near
+pub mod Chain
+pub mod Looking
 pub mod Frame

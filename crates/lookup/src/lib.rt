@@ -1,5 +1,6 @@
 // Finding things in a model: kinds of type, ancestors, properties by name, steps, names as bytes.
 pub mod bases;
+pub mod index;
 pub mod kinds;
 pub mod names;
 pub mod steps;

@@ -1,19 +1,18 @@
 -- What the check answers and leaves in the buffer, by what the code found. Assumes nothing.
 use Prim.Native.Nat.{ℕ, _+_, _*_, _≤_, _<_}
-use mathlib.Core.Path.{_≡_, refl, sym, ap, _∙_}
+use mathlib.Core.Path.{_≡_, sym, _∙_}
 use mathlib.Core.List.{List, [], _∷_, _++_}
-use mathlib.Core.Bool.{Bool, true, false}
+use mathlib.Core.Bool.{true, false}
 use native.Mathlib.Omega.{arith}
 use lib.ListN.{length, drop}
 use borrow.Author.Tests.{lt-ltb, le-ltb}
-use Rattle.csdl.specs.Model.{Model}
 use Rattle.csdl.specs.Image.{modelIn, header, image1, buffer2}
 use Rattle.csdl.specs.Verdict.{Answer, verdict, modelMeans, modelVerdict, modelThen, modelAnswer, modelBuffer, resolution}
 use Rattle.csdl.specs.Verdict.Answer.{accepted, refused}
 use Rattle.csdl.specs.declared.ModelAnswer.{ModelAnswer}
 use Rattle.csdl.specs.declared.ModelAnswer.the-variants.{Accepted, Refused}
 use Rattle.csdl.proofs.Verdicts.{model-then-accepts}
-use Rattle.form.proofs.Parts.{Layout, layout, counts}
+use Rattle.form.proofs.Parts.{layout, counts}
 use Rattle.resolution.specs.Written.{Resolvable}
 use Rattle.resolution.proofs.Whole.{resolvable}
 
@@ -70,18 +69,14 @@ module _ (image buffer : List ℕ) where
       unfolding modelAnswer verdict
       rules = rw (good, room) (sym means)
 
-      pub answer-refused : (rule place : ℕ) → r ≡ Refused rule place → (modelMeans (Refused rule place) ≡ modelAnswer image buffer) × (buffer ≡ modelBuffer image buffer)
+      pub answer-refused : (rule place : ℕ) → r ≡ Refused rule place → (modelMeans r ≡ modelAnswer image buffer) × (buffer ≡ modelBuffer image buffer)
       unfolding modelMeans
-      answer-refused rule place e =
-          let q : modelAnswer image buffer ≡ refused rule place = rules ∙ rw e in
-          (sym q, left-alone rule place q)
+      answer-refused rule place e = (sym rules, left-alone rule place (rules ∙ rw e))
 
       pub answer-accepted : (s : ℕ) → r ≡ Accepted s → (out : List ℕ) → out ≡ resolution (modelIn image) ++ drop (2 * modelIn image .segments) buffer
-          → (modelMeans (Accepted s) ≡ modelAnswer image buffer) × (out ≡ modelBuffer image buffer)
+          → (modelMeans r ≡ modelAnswer image buffer) × (out ≡ modelBuffer image buffer)
       unfolding modelMeans
-      answer-accepted s e out w =
-          let q : modelAnswer image buffer ≡ accepted (s ∷ []) = rules ∙ rw e in
-          (sym q, w ∙ written (s ∷ []) q)
+      answer-accepted s e out w = (sym rules, w ∙ written (s ∷ []) (rules ∙ rw e))
 
 -- A model that is accepted has a resolution, and a buffer that keeps rule 2 has room for it.
 module _ (image : List ℕ) (good : image1 image ≡ false) where

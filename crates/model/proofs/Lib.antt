@@ -1,3 +1,3 @@
 pub mod Answers
 pub mod Names
-pub mod Shape
+pub mod Tables

@@ -1,20 +1,21 @@
 -- The name of a record, by what the code read. Assumes nothing.
 use Prim.Native.Nat.{ℕ, _+_, _-_, _*_, _≤_, _<_}
-use mathlib.Core.Path.{_≡_, refl, sym, ap, _∙_}
-use mathlib.Core.List.{List, [], _∷_}
+use mathlib.Core.Path.{_≡_, refl, sym, _∙_}
+use mathlib.Core.List.{List, []}
 use mathlib.Core.Bool.{Bool, true, false, cond, not}
 use native.Mathlib.Omega.{arith}
-use lib.ListN.{length, take, drop}
-use Rattle.packed.specs.Bytes.{part, between}
+use lib.ListN.{length}
+use Rattle.packed.specs.Bytes.{part}
 use Rattle.csdl.specs.Tables.{Name, typeName}
-use Rattle.csdl.specs.Model.{Model, modelOf, recordAt, places, text}
-use Rattle.csdl.specs.Image.{modelIn, image1, namesFrom, imageEnd}
+use Rattle.csdl.specs.Model.{Model, modelOf, recordAt, places}
+use Rattle.csdl.specs.Image.{modelIn, image1}
 use Rattle.csdl.specs.Verdict.{verdict}
-use Rattle.csdl.specs.Naming.{noName, nameHeld, ifAccepted, recordName, nameOfRecord}
+use Rattle.csdl.specs.Naming.{noName, nameHeld, recordName, nameOfRecord}
 use Rattle.csdl.specs.declared.Record.{Record}
 use Rattle.csdl.specs.declared.Record.the-variants.{OfSchema, OfType, OfProperty, OfKey, OfConstraint, OfChild, OfBinding, OfSegment, Nowhere}
 use Rattle.trail.proofs.Past.{field-past}
 use Rattle.form.proofs.Parts.{layout, counts}
+use Rattle.parts.specs.Tables.{namesIn}
 use Rattle.scan.specs.Stages.{formed}
 use Rattle.scan.proofs.Order.{name-formed}
 use Rattle.scan.proofs.Tables.{record-cases}
@@ -89,7 +90,7 @@ module _ (image : List ℕ) (place : ℕ) where
       let q : recordName image place ≡ noName = named e ∙ name-past-end (modelIn image) place (omega (arith, n, l)) in
       rw q
 
-  pub name-found : (start size a e : ℕ) → image1 image ≡ false → start ≡ nameAt (modelIn image) place .start → size ≡ nameAt (modelIn image) place .size
-      → a ≡ namesFrom image → e ≡ imageEnd image → part (between image a e) start size ≡ nameOfRecord image place
+  pub name-found : (start size : ℕ) → image1 image ≡ false → start ≡ nameAt (modelIn image) place .start → size ≡ nameAt (modelIn image) place .size
+      → part (namesIn image) start size ≡ nameOfRecord image place
   unfolding nameOfRecord modelIn modelOf
-  name-found start size a e good s z x y = rw (named good, s, z, x, y)
+  name-found start size good s z = rw (named good, s, z)

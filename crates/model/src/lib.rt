@@ -1,7 +1,6 @@
 // The check of a model image, rules 1 to 19, and the names of its records.
 ghost use mathlib.Core.Path.{_≡_};
 ghost use mathlib.Core.List.{[], _∷_};
-ghost use Prim.Native.Nat.{_+_, _*_, _≤_, _<_};
 ghost use Rattle.csdl.specs.Image.{modelIn};
 ghost use Rattle.csdl.specs.Verdict as verdicts;
 ghost use Rattle.csdl.specs.Verdict.Answer.{accepted};
@@ -9,15 +8,14 @@ ghost use Rattle.csdl.specs.Naming.{nameOfRecord};
 use csdl::ModelAnswer;
 use form::image::bad_image;
 use form::image::header;
-use form::image::image_end;
-use form::image::names_from;
-use parts::check_parts;
-use parts::name_part;
-use parts::write_parts;
+use images::check_parts;
+use images::name_part;
+use images::write_parts;
+use parts::model::names_of;
 use records::fields::text_of;
 
+pub mod images;
 pub mod naming;
-pub mod parts;
 
 // The check without rule 2, as the later calls have it.
 pub fn check_rules(image: &[u8]) -> ModelAnswer
@@ -42,11 +40,11 @@ pub fn check_model(image: &[u8], resolution: &mut [u8]) -> ModelAnswer
     }
     let answer = check_parts(image);
     match answer {
-        ModelAnswer::Accepted { segments } => {
+        ModelAnswer::Accepted { segments: _ } => {
             write_parts(image, resolution);
-            ModelAnswer::Accepted { segments }
+            answer
         }
-        ModelAnswer::Refused { rule, place } => ModelAnswer::Refused { rule, place },
+        ModelAnswer::Refused { rule: _, place: _ } => answer,
     }
 }
 
@@ -61,7 +59,5 @@ pub fn name_record(image: &[u8], place: u32) -> &[u8]
         return &image[..0];
     }
     let n = name_part(image, place as u16);
-    let names = names_from(image) as usize;
-    let end = image_end(image) as usize;
-    text_of(&image[names..end], n)
+    text_of(names_of(image), n)
 }

@@ -1,10 +1,9 @@
 // The name that a record holds.
 ghost use mathlib.Core.Path.{_≡_};
 ghost use mathlib.Core.List.{[]};
-ghost use mathlib.Core.Bool.{cond};
 ghost use Prim.Native.Nat.{_≤_, _<_};
 ghost use lib.ListN.{length};
-ghost use Rattle.csdl.specs.Tables.{typeName, segmentName, segmentType, segmentCast};
+ghost use Rattle.csdl.specs.Tables.{typeName};
 ghost use Rattle.csdl.specs.Model.{modelOf};
 ghost use Rattle.csdl.specs.Naming.{nameHeld};
 ghost use Rattle.scan.specs.Limits.{Limits};

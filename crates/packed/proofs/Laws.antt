@@ -9,7 +9,7 @@ use native.Mathlib.Omega.{arith}
 use lib.Dec.{eqb, eqb·zero-suc, eqb·suc-zero, eqb·suc-suc}
 use lib.ListN.{length, getD, take, drop, length-drop, drop-of-length-le}
 use lib.Seq.{getD-take, getD-drop, drop-cons, take-all, take-nil}
-use lib.Pow.{mod-pow-add, shr-shr, shl-exact}
+use lib.Pow.{mod-pow-add, shr-shr, shl-exact, high, low}
 use borrow.Author.Tests.{eqb-true, eqb-false, eq-eqb, ne-eqb}
 use Rattle.packed.specs.Field.{bit, fieldOf, flagOf}
 use Rattle.packed.specs.Bytes.{same, part, highByte, lowByte}
@@ -55,10 +55,22 @@ field-byte s off (suc n) m h =
     let b : bit s (off + n) ≡ x / 2 ^ m % 2 = bit-byte s off n m (omega arith) in
     rw (field-suc, i, b, ← shr-shr, ← add-one n, mod-pow-add)
 
--- n bits more, of the byte at bit `off + w`, which has m bits after them
-pub field-more : (s : List ℕ) (off w n m : ℕ) → (off + w) % 8 + n + m ≡ 8
-    → fieldOf s off w * 2 ^ n + getD s ((off + w) / 8) 0 / 2 ^ m % 2 ^ n ≡ fieldOf s off (w + n)
-field-more s off w n m h = rw (field-add, field-byte s (off + w) n m h)
+-- a field of n bits among 32, with k before it and m after it
+within : (s : List ℕ) (at k n m : ℕ) → k + n + m ≡ 32 → fieldOf s at 32 / 2 ^ m % 2 ^ n ≡ fieldOf s (at + k) n
+within s at k n m h =
+    rw (← h, field-add s at (k + n) m, high (fieldOf s at (k + n)) m (field-lt s (at + (k + n)) m), field-add s at k n)
+    (low (fieldOf s at k) n (field-lt s (at + k) n))
+
+-- a field within the 32 bits from its first byte on, with m of them after it
+pub field-word : (s : List ℕ) (off n m : ℕ) → off % 8 + n + m ≡ 32 → fieldOf s (8 * (off / 8)) 32 / 2 ^ m % 2 ^ n ≡ fieldOf s off n
+field-word s off n m h =
+    let o : 8 * (off / 8) + off % 8 ≡ off = omega arith in
+    within s (8 * (off / 8)) (off % 8) n m h ∙ rw o
+
+-- n bits more, of the 32 bits from the byte of bit `off + w` on, which have m bits after them
+pub field-more : (s : List ℕ) (off w n m : ℕ) → (off + w) % 8 + n + m ≡ 32
+    → fieldOf s off w * 2 ^ n + fieldOf s (8 * ((off + w) / 8)) 32 / 2 ^ m % 2 ^ n ≡ fieldOf s off (w + n)
+field-more s off w n m h = rw (field-add, field-word s (off + w) n m h)
 
 -- a field of the part of n bytes from byte a on
 bit-part : (s : List ℕ) (a n k : ℕ) → k < 8 * n → bit (part s a n) k ≡ bit s (8 * a + k)
@@ -84,6 +96,16 @@ pub field-16 : (s : List ℕ) (k : ℕ) → getD s k 0 < 256 → getD s (k + 1) 
 field-16 s k h j =
     let e : 8 * k + 8 ≡ 8 * (k + 1) = omega arith in
     rw (field-add s (8 * k) 8 8, e, field-8 s k h, field-8 s (k + 1) j)
+
+-- four bytes, as the code reads them
+pub field-32 : (s : List ℕ) (k a b c d : ℕ) → (a ≡ getD s k 0) × (a < 256) → (b ≡ getD s (k + 1) 0) × (b < 256) → (c ≡ getD s (k + 2) 0) × (c < 256) → (d ≡ getD s (k + 3) 0) × (d < 256)
+    → (a * 256 + b) * 65536 + (c * 256 + d) ≡ fieldOf s (8 * k) 32
+field-32 s k a b c d (p, u) (q, v) (x, w) (y, z) =
+    let e : 8 * k + 16 ≡ 8 * (k + 2) = omega arith in
+    let t : k + 2 + 1 ≡ k + 3 = omega arith in
+    let hi : fieldOf s (8 * k) 16 ≡ a * 256 + b = rw (field-16 s k (rw (← p) u) (rw (← q) v), ← p, ← q) in
+    let lo : fieldOf s (8 * (k + 2)) 16 ≡ c * 256 + d = rw (field-16 s (k + 2) (rw (← x) w) (rw (t, ← y) z), t, ← x, ← y) in
+    rw (field-add s (8 * k) 16 16, e, hi, lo)
 
 -- ---- flags
 module _ (s : List ℕ) (off : ℕ) where

@@ -1,7 +1,7 @@
 // Packed fields and byte strings. The reader goes by shifts and masks; each stands in a small function whose contract is in / and %.
 ghost use mathlib.Core.Path.{_≡_};
 ghost use Prim.Native.Nat.{min, _+_, _*_, _/_, _%_, _^_, _≤_, _<_};
-ghost use lib.ListN.{getD};
+ghost use lib.ListN.{length, getD};
 ghost use Rattle.packed.specs.Field.{fieldOf, flagOf};
 ghost use Rattle.packed.specs.Bytes.{same, part, highByte, lowByte};
 
@@ -11,11 +11,19 @@ fn least(a: usize, b: usize) -> usize
     if a < b { a } else { b }
 }
 
-// Byte i, or 0 past the end.
-fn byte_at(s: &[u8], i: usize) -> u64
+// Byte i.
+fn byte_in(s: &[u8], i: usize) -> u64
+    requires { ⌜ i < length (now s) ⌝ }
     ensures { λ r. ⌜ (r ≡ getD (now (s .entry)) i 0) × (r < 256) ⌝ }
 {
-    if i < s.len() { s[i] as u64 } else { 0 }
+    s[i] as u64
+}
+
+// Byte i, or 0 past the end.
+pub fn byte_at(s: &[u8], i: usize) -> u64
+    ensures { λ r. ⌜ (r ≡ getD (now (s .entry)) i 0) × (r < 256) ⌝ }
+{
+    if i < s.len() { byte_in(s, i) } else { 0 }
 }
 
 // The place of bit k in its byte.
@@ -25,9 +33,38 @@ fn in_byte(k: usize) -> usize
     k & 7
 }
 
+// Four bytes as one number of 32 bits.
+fn word_of(a: u64, b: u64, c: u64, d: u64) -> u64
+    requires { ⌜ (a < 256) × (b < 256) × (c < 256) × (d < 256) ⌝ }
+    ensures { λ r. ⌜ r ≡ (a * 256 + b) * 65536 + (c * 256 + d) ⌝ }
+{
+    joined(joined(a, b, 8, 8), joined(c, d, 8, 8), 16, 16)
+}
+
+// The 32 bits from byte i on.
+fn word_at(s: &[u8], i: usize) -> u64
+    requires { ⌜ i < 4294967296 ⌝ }
+    ensures { λ r. ⌜ r ≡ fieldOf (now (s .entry)) (8 * i) 32 ⌝ }
+{
+    if i + 4 <= s.len() {
+        return word_of(
+            byte_in(s, i),
+            byte_in(s, i + 1),
+            byte_in(s, i + 2),
+            byte_in(s, i + 3),
+        );
+    }
+    word_of(
+        byte_at(s, i),
+        byte_at(s, i + 1),
+        byte_at(s, i + 2),
+        byte_at(s, i + 3),
+    )
+}
+
 // The n low bits of x.
 fn low_bits(x: u64, n: usize) -> u64
-    requires { ⌜ n ≤ 8 ⌝ }
+    requires { ⌜ n ≤ 32 ⌝ }
     ensures { λ r. ⌜ (r ≡ x % 2 ^ n) × (r < 2 ^ n) ⌝ }
 {
     x & ((1 << n) - 1)
@@ -35,7 +72,7 @@ fn low_bits(x: u64, n: usize) -> u64
 
 // `lo`, of n bits, behind `hi`, of k bits.
 fn joined(hi: u64, lo: u64, k: usize, n: usize) -> u64
-    requires { ⌜ (n ≤ 8) × (k + n ≤ 64) × (hi < 2 ^ k) × (lo < 2 ^ n) ⌝ }
+    requires { ⌜ (n ≤ 32) × (k + n ≤ 64) × (hi < 2 ^ k) × (lo < 2 ^ n) ⌝ }
     ensures { λ r. ⌜ r ≡ hi * 2 ^ n + lo ⌝ }
 {
     (hi << n) | lo
@@ -53,9 +90,9 @@ pub fn field(s: &[u8], off: u32, width: u32) -> u64
     let mut done: usize = 0;
     while done < all {
         let at = from + done;
-        let room = 8 - in_byte(at);
+        let room = 32 - in_byte(at);
         let n = least(room, all - done);
-        let bits = low_bits(byte_at(s, at >> 3) >> (room - n), n);
+        let bits = low_bits(word_at(s, at >> 3) >> (room - n), n);
         r = joined(r, bits, done, n);
         done += n;
     }

@@ -4,6 +4,7 @@ ghost use mathlib.Core.List.{[]};
 ghost use mathlib.Core.Bool.{cond, not};
 ghost use Prim.Native.Nat.{_≤_, _<_};
 ghost use lib.ListN.{length};
+ghost use Rattle.lookup.specs.Index.{Indexed};
 ghost use Rattle.csdl.specs.Model.{modelOf};
 ghost use Rattle.csdl.specs.Paths.{sameShape, bothComplex, constraint16};
 ghost use Rattle.paths.specs.Constraints.{otherNullable, constraintEnds, constraintCodes, constraintFails, constraintEnd};
@@ -101,15 +102,16 @@ fn constraint_walk(
     properties: &[u8],
     segments: &[u8],
     names: &[u8],
+    index: &[u16],
     start: u16,
     first: u16,
     n: u16,
 ) -> Walk
-    requires { ⌜ (length (now types) ≤ 384) × (length (now properties) ≤ 3584) × (first < 2048) × (n < 16) ⌝ }
+    requires { ⌜ (length (now types) ≤ 384) × (length (now properties) ≤ 3584) × (first < 2048) × (n < 16) × Indexed (now properties) (now names) (now index) ⌝ }
     ensures { λ w. ⌜ w .fails ≡ constraintFails (modelOf [] (now (types .entry)) (now (properties .entry)) [] [] [] [] (now (segments .entry)) (now (names .entry))) start first n ⌝ }
     ensures { λ w. ⌜ w .end ≡ constraintEnd (modelOf [] (now (types .entry)) (now (properties .entry)) [] [] [] [] (now (segments .entry)) (now (names .entry))) start first n ⌝ }
 {
-    let trail = trail_of(types, properties, segments, names, start, first, n);
+    let trail = trail_of(types, properties, segments, names, index, start, first, n);
     let codes = trail.codes;
     let fails = constraint_codes(types, properties, &codes, n);
     let end = number_of(last_code(&codes, n));
@@ -123,9 +125,10 @@ pub fn constraint_16(
     constraints: &[u8],
     segments: &[u8],
     names: &[u8],
+    index: &[u16],
     c: u16,
 ) -> bool
-    requires { ⌜ (length (now types) ≤ 384) × (length (now properties) ≤ 3584) ⌝ }
+    requires { ⌜ (length (now types) ≤ 384) × (length (now properties) ≤ 3584) × Indexed (now properties) (now names) (now index) ⌝ }
     ensures { λ r. ⌜ r ≡ constraint16 (modelOf [] (now (types .entry)) (now (properties .entry)) [] (now (constraints .entry)) [] [] (now (segments .entry)) (now (names .entry))) c ⌝ }
 {
     let p = constraint_property(constraints, c);
@@ -135,6 +138,7 @@ pub fn constraint_16(
         properties,
         segments,
         names,
+        index,
         property_owner(properties, p),
         dependent.first,
         dependent.count,
@@ -145,6 +149,7 @@ pub fn constraint_16(
         properties,
         segments,
         names,
+        index,
         property_type_ref(properties, p),
         principal.first,
         principal.count,

@@ -4,6 +4,7 @@ ghost use mathlib.Core.List.{[]};
 ghost use mathlib.Core.Bool.{_||_};
 ghost use Prim.Native.Nat.{_≤_, _<_};
 ghost use lib.ListN.{length};
+ghost use Rattle.lookup.specs.Index.{Indexed};
 ghost use Rattle.csdl.specs.Model.{modelOf};
 ghost use Rattle.csdl.specs.Paths.{keyName, key15b, key15c, key15d, key15e, key15f, key15g, key15h, key15};
 ghost use Rattle.paths.specs.Keys.{againNamed};
@@ -46,9 +47,10 @@ pub fn key_walk(
     keys: &[u8],
     segments: &[u8],
     names: &[u8],
+    index: &[u16],
     k: u16,
 ) -> bool
-    requires { ⌜ (length (now types) ≤ 384) × (length (now properties) ≤ 3584) ⌝ }
+    requires { ⌜ (length (now types) ≤ 384) × (length (now properties) ≤ 3584) × Indexed (now properties) (now names) (now index) ⌝ }
     ensures { λ r. ⌜ r ≡ (key15c (modelOf [] (now (types .entry)) (now (properties .entry)) (now (keys .entry)) [] [] [] (now (segments .entry)) (now (names .entry))) k || (key15d (modelOf [] (now (types .entry)) (now (properties .entry)) (now (keys .entry)) [] [] [] (now (segments .entry)) (now (names .entry))) k || key15e (modelOf [] (now (types .entry)) (now (properties .entry)) (now (keys .entry)) [] [] [] (now (segments .entry)) (now (names .entry))) k)) ⌝ }
 {
     let run = key_path(keys, k);
@@ -59,6 +61,7 @@ pub fn key_walk(
         properties,
         segments,
         names,
+        index,
         key_owner(keys, k),
         first,
         n,
@@ -127,8 +130,15 @@ pub fn key_named(keys: &[u8], segments: &[u8], names: &[u8], k: u16) -> bool
 }
 
 // Whether the alias is the name of a property of the owner or an ancestor (15h).
-pub fn key_alias_found(types: &[u8], properties: &[u8], keys: &[u8], names: &[u8], k: u16) -> bool
-    requires { ⌜ (length (now types) ≤ 384) × (length (now properties) ≤ 3584) ⌝ }
+pub fn key_alias_found(
+    types: &[u8],
+    properties: &[u8],
+    keys: &[u8],
+    names: &[u8],
+    index: &[u16],
+    k: u16,
+) -> bool
+    requires { ⌜ (length (now types) ≤ 384) × (length (now properties) ≤ 3584) × Indexed (now properties) (now names) (now index) ⌝ }
     ensures { λ r. ⌜ r ≡ key15h (modelOf [] (now (types .entry)) (now (properties .entry)) (now (keys .entry)) [] [] [] [] (now (names .entry))) k ⌝ }
 {
     let alias = key_alias(keys, k);
@@ -139,6 +149,7 @@ pub fn key_alias_found(types: &[u8], properties: &[u8], keys: &[u8], names: &[u8
         types,
         properties,
         names,
+        index,
         key_alias_text(keys, names, k),
         key_owner(keys, k),
     )
@@ -152,15 +163,16 @@ pub fn key_15(
     keys: &[u8],
     segments: &[u8],
     names: &[u8],
+    index: &[u16],
     k: u16,
 ) -> bool
-    requires { ⌜ (length (now types) ≤ 384) × (length (now properties) ≤ 3584) × (length (now keys) ≤ 768) ⌝ }
+    requires { ⌜ (length (now types) ≤ 384) × (length (now properties) ≤ 3584) × (length (now keys) ≤ 768) × Indexed (now properties) (now names) (now index) ⌝ }
     ensures { λ r. ⌜ r ≡ key15 (modelOf [] (now (types .entry)) (now (properties .entry)) (now (keys .entry)) [] [] [] (now (segments .entry)) (now (names .entry))) k ⌝ }
 {
     !of_kind(types, 0, key_owner(keys, k))
         | key_above(types, keys, k)
-        | key_walk(types, properties, keys, segments, names, k)
+        | key_walk(types, properties, keys, segments, names, index, k)
         | key_alias_form(keys, k)
         | key_named(keys, segments, names, k)
-        | key_alias_found(types, properties, keys, names, k)
+        | key_alias_found(types, properties, keys, names, index, k)
 }

@@ -3,7 +3,7 @@ ghost use mathlib.Core.Path.{_≡_};
 ghost use Prim.Native.Nat.{_+_, _<_, _≤_};
 ghost use Rattle.packed.specs.Field.{fieldOf};
 ghost use Rattle.packed.specs.Bytes.{part};
-use packed::field16;
+use packed::field;
 use packed::part_of;
 
 // Where a name starts in the name bytes, and its length; length 0 means absent.
@@ -18,25 +18,27 @@ pub struct Run {
     pub count: u16,
 }
 
-// The name field at a bit offset.
+// The name field at a bit offset, start and length read at once.
 pub fn name_in(table: &[u8], at: u32) -> Name
     requires { ⌜ at < 4294967200 ⌝ }
     ensures { λ r. ⌜ (r .start ≡ fieldOf (now (table .entry)) at 12) × (r .size ≡ fieldOf (now (table .entry)) (at + 12) 8) × (r .start < 4096) × (r .size < 256) ⌝ }
 {
+    let both = field(table, at, 20);
     Name {
-        start: field16(table, at, 12),
-        size: field16(table, at + 12, 8),
+        start: (both / 256) as u16,
+        size: (both % 256) as u16,
     }
 }
 
-// The path field at a bit offset.
+// The path field at a bit offset, likewise.
 pub fn path_in(table: &[u8], at: u32) -> Run
     requires { ⌜ at < 4294967200 ⌝ }
     ensures { λ r. ⌜ (r .first ≡ fieldOf (now (table .entry)) at 11) × (r .count ≡ fieldOf (now (table .entry)) (at + 11) 4) × (r .first < 2048) × (r .count < 16) ⌝ }
 {
+    let both = field(table, at, 15);
     Run {
-        first: field16(table, at, 11),
-        count: field16(table, at + 11, 4),
+        first: (both / 16) as u16,
+        count: (both % 16) as u16,
     }
 }
 

@@ -3,11 +3,13 @@ ghost use mathlib.Core.Path.{_≡_};
 ghost use mathlib.Core.List.{[], _++_};
 ghost use Prim.Native.Nat.{ℕ, _+_, _*_, _≤_, _<_};
 ghost use lib.ListN.{length, getD, drop};
+ghost use Rattle.lookup.specs.Index.{Indexed};
 ghost use Rattle.csdl.specs.Model.{modelOf};
 ghost use Rattle.csdl.specs.Path.{holders};
 ghost use Rattle.csdl.specs.Verdict.{resolution};
 ghost use Rattle.segments.specs.Kinds.{kindOf};
 ghost use Rattle.resolution.specs.Written.{RunWritten, Resolvable, PathStep, KindStep};
+use lookup::index::index_of;
 use packed::high_byte;
 use packed::low_byte;
 use segments::kinds::holder_count;
@@ -40,18 +42,28 @@ fn write_path(
     bindings: &[u8],
     segments: &[u8],
     names: &[u8],
+    index: &[u16],
     kind: u16,
     r: u16,
     out: &mut [u8],
 )
-    requires { ⌜ (length (now types) ≤ 384) × (length (now properties) ≤ 3584) × Resolvable (modelOf [] (now types) (now properties) (now keys) (now constraints) (now children) (now bindings) (now segments) (now names)) × (r < holders (modelOf [] (now types) (now properties) (now keys) (now constraints) (now children) (now bindings) (now segments) (now names)) (kindOf kind)) × (2 * (modelOf [] (now types) (now properties) (now keys) (now constraints) (now children) (now bindings) (now segments) (now names)) .segments ≤ length (now out)) ⌝ }
+    requires { ⌜ (length (now types) ≤ 384) × (length (now properties) ≤ 3584) × Resolvable (modelOf [] (now types) (now properties) (now keys) (now constraints) (now children) (now bindings) (now segments) (now names)) × (r < holders (modelOf [] (now types) (now properties) (now keys) (now constraints) (now children) (now bindings) (now segments) (now names)) (kindOf kind)) × (2 * (modelOf [] (now types) (now properties) (now keys) (now constraints) (now children) (now bindings) (now segments) (now names)) .segments ≤ length (now out)) × Indexed (now properties) (now names) (now index) ⌝ }
     ensures { λ x. ⌜ PathStep (modelOf [] (now (types .entry)) (now (properties .entry)) (now (keys .entry)) (now (constraints .entry)) (now (children .entry)) (now (bindings .entry)) (now (segments .entry)) (now (names .entry))) (kindOf kind) r (now (out .entry)) (now (out .exit)) ⌝ }
 {
     let run = path_of(properties, keys, constraints, bindings, kind, r);
     let first = run.first;
     let count = run.count;
     let start = start_of(properties, keys, constraints, children, bindings, kind, r);
-    let t = trail_of(types, properties, segments, names, start, first, count);
+    let t = trail_of(
+        types,
+        properties,
+        segments,
+        names,
+        index,
+        start,
+        first,
+        count,
+    );
     let codes = t.codes;
     write_run(&codes, first, count, out);
 }
@@ -66,10 +78,11 @@ fn write_kind(
     bindings: &[u8],
     segments: &[u8],
     names: &[u8],
+    index: &[u16],
     kind: u16,
     out: &mut [u8],
 )
-    requires { ⌜ (length (now types) ≤ 384) × (length (now properties) ≤ 3584) × (length (now keys) ≤ 768) × (length (now constraints) ≤ 320) × (length (now bindings) ≤ 768) × Resolvable (modelOf [] (now types) (now properties) (now keys) (now constraints) (now children) (now bindings) (now segments) (now names)) × (kind < 6) × (2 * (modelOf [] (now types) (now properties) (now keys) (now constraints) (now children) (now bindings) (now segments) (now names)) .segments ≤ length (now out)) ⌝ }
+    requires { ⌜ (length (now types) ≤ 384) × (length (now properties) ≤ 3584) × (length (now keys) ≤ 768) × (length (now constraints) ≤ 320) × (length (now bindings) ≤ 768) × Resolvable (modelOf [] (now types) (now properties) (now keys) (now constraints) (now children) (now bindings) (now segments) (now names)) × (kind < 6) × (2 * (modelOf [] (now types) (now properties) (now keys) (now constraints) (now children) (now bindings) (now segments) (now names)) .segments ≤ length (now out)) × Indexed (now properties) (now names) (now index) ⌝ }
     ensures { λ x. ⌜ KindStep (modelOf [] (now (types .entry)) (now (properties .entry)) (now (keys .entry)) (now (constraints .entry)) (now (children .entry)) (now (bindings .entry)) (now (segments .entry)) (now (names .entry))) kind (now (out .entry)) (now (out .exit)) ⌝ }
 {
     let n = holder_count(properties, keys, constraints, bindings, kind);
@@ -83,8 +96,42 @@ fn write_kind(
             bindings,
             segments,
             names,
+            index,
             kind,
             r,
+            out,
+        );
+    }
+}
+
+// The paths of every kind.
+fn write_kinds(
+    types: &[u8],
+    properties: &[u8],
+    keys: &[u8],
+    constraints: &[u8],
+    children: &[u8],
+    bindings: &[u8],
+    segments: &[u8],
+    names: &[u8],
+    index: &[u16],
+    out: &mut [u8],
+)
+    requires { ⌜ (length (now types) ≤ 384) × (length (now properties) ≤ 3584) × (length (now keys) ≤ 768) × (length (now constraints) ≤ 320) × (length (now bindings) ≤ 768) × Resolvable (modelOf [] (now types) (now properties) (now keys) (now constraints) (now children) (now bindings) (now segments) (now names)) × (2 * (modelOf [] (now types) (now properties) (now keys) (now constraints) (now children) (now bindings) (now segments) (now names)) .segments ≤ length (now out)) × Indexed (now properties) (now names) (now index) ⌝ }
+    ensures { λ x. ⌜ now (out .exit) ≡ resolution (modelOf [] (now (types .entry)) (now (properties .entry)) (now (keys .entry)) (now (constraints .entry)) (now (children .entry)) (now (bindings .entry)) (now (segments .entry)) (now (names .entry))) ++ drop (2 * (modelOf [] (now (types .entry)) (now (properties .entry)) (now (keys .entry)) (now (constraints .entry)) (now (children .entry)) (now (bindings .entry)) (now (segments .entry)) (now (names .entry))) .segments) (now (out .entry)) ⌝ }
+{
+    for kind in 0..6 {
+        write_kind(
+            types,
+            properties,
+            keys,
+            constraints,
+            children,
+            bindings,
+            segments,
+            names,
+            index,
+            kind,
             out,
         );
     }
@@ -105,18 +152,17 @@ pub fn write_resolution(
     requires { ⌜ (length (now types) ≤ 384) × (length (now properties) ≤ 3584) × (length (now keys) ≤ 768) × (length (now constraints) ≤ 320) × (length (now bindings) ≤ 768) × Resolvable (modelOf [] (now types) (now properties) (now keys) (now constraints) (now children) (now bindings) (now segments) (now names)) × (2 * (modelOf [] (now types) (now properties) (now keys) (now constraints) (now children) (now bindings) (now segments) (now names)) .segments ≤ length (now out)) ⌝ }
     ensures { λ x. ⌜ now (out .exit) ≡ resolution (modelOf [] (now (types .entry)) (now (properties .entry)) (now (keys .entry)) (now (constraints .entry)) (now (children .entry)) (now (bindings .entry)) (now (segments .entry)) (now (names .entry))) ++ drop (2 * (modelOf [] (now (types .entry)) (now (properties .entry)) (now (keys .entry)) (now (constraints .entry)) (now (children .entry)) (now (bindings .entry)) (now (segments .entry)) (now (names .entry))) .segments) (now (out .entry)) ⌝ }
 {
-    for kind in 0..6 {
-        write_kind(
-            types,
-            properties,
-            keys,
-            constraints,
-            children,
-            bindings,
-            segments,
-            names,
-            kind,
-            out,
-        );
-    }
+    let index = index_of(properties, names);
+    write_kinds(
+        types,
+        properties,
+        keys,
+        constraints,
+        children,
+        bindings,
+        segments,
+        names,
+        &index,
+        out,
+    );
 }

@@ -10,12 +10,12 @@ use Rattle.csdl.specs.Find.{ofKind, structured, find, own, declares, isAt, ance
 use Rattle.csdl.specs.Path.{Segment, Step, segmentAt, resolvesAt, movesTo, stepAt, pathOf, startOf, holders, holding}
 use Rattle.csdl.specs.Path.Segment.{name, cast}
 use Rattle.csdl.specs.Form.{schema6, sharesName, namesSchema, type7a, sameType, child7b}
-use Rattle.csdl.specs.Properties.{type12}
+use Rattle.csdl.specs.Properties.{property11, type12}
 use Rattle.csdl.specs.Paths.{segment13, segment14, stuck, stuckIn, keyType, keyStep, keyEnd, keyName, key15b, key15c, key15g, key15, constraintStep, constraintPath, constraint16b, constraint16cd, sameShape, bothComplex, constraint16, otherContained, property17, property18a, child18, crosses, bindingForm, binding19d, targetStep, targetForm, binding19}
-use Rattle.typing.proofs.Frame.{type-12-frame}
+use Rattle.typing.proofs.Frame.{property-11-frame, type-12-frame}
 use Rattle.scan.specs.Rows.{shifted}
 use Rattle.scan.specs.Stages.{ruleNo, lowestPlace}
-use Rattle.scan.proofs.Tables.{types-placed, segments-placed}
+use Rattle.scan.proofs.Tables.{types-placed, properties-placed, segments-placed}
 
 -- What a segment resolves to, as functions: they read types, properties and names.
 module _ (ty pr nm s1 k1 c1 h1 b1 g1 s2 k2 c2 h2 b2 g2 : List ℕ) where
@@ -100,6 +100,14 @@ module _ (sc ty pr ke co ch bi sg nm : List ℕ) where
 
   -- the searches over a whole table
   module _ (r a n : ℕ) where
+    pub lowest-11 : a ≡ schemaCount sc + typeCount ty → n ≡ propertyCount pr → r ≡ shifted a (firstFrom (λ p. property11 (modelOf [] ty pr [] [] [] [] [] nm) p) 0 n)
+        → r ≡ lowestPlace (modelOf sc ty pr ke co ch bi sg nm) (ruleNo 11)
+    unfolding lowestPlace ruleNo modelOf
+    lowest-11 e f g =
+        let q : _≡_ {A = ℕ → Bool} (λ p. property11 (modelOf [] ty pr [] [] [] [] [] nm) p) (λ p. property11 (modelOf sc ty pr ke co ch bi sg nm) p) =
+        fun-ext (λ p. property-11-frame sc ty pr ke co ch bi sg nm p) in
+        properties-placed (modelOf sc ty pr ke co ch bi sg nm) (λ p. property11 (modelOf sc ty pr ke co ch bi sg nm) p) e f (g ∙ rw q)
+
     pub lowest-12 : a ≡ schemaCount sc → n ≡ typeCount ty → r ≡ shifted a (firstFrom (λ t. type12 (modelOf [] ty pr [] [] [] [] [] []) t) 0 n)
         → r ≡ lowestPlace (modelOf sc ty pr ke co ch bi sg nm) (ruleNo 12)
     unfolding lowestPlace ruleNo modelOf

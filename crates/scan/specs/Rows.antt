@@ -4,10 +4,10 @@ use mathlib.Core.Bool.{Bool}
 use Rattle.csdl.specs.Model.{Model}
 use Rattle.csdl.specs.Form.{schema6, type7a, child7b}
 use Rattle.csdl.specs.Types.{type8, type9}
-use Rattle.csdl.specs.Properties.{property10, property11}
+use Rattle.csdl.specs.Properties.{property10}
 use Rattle.csdl.specs.Paths.{key15, constraint16, property17, property18a, child18, binding19}
 use Rattle.scan.specs.declared.rows.TableRule.{TableRule}
-use Rattle.scan.specs.declared.rows.TableRule.the-variants.{Schema6, Type7, Child7, Type8, Type9, Property10, Property11, Key15, Constraint16, Property17, Property18, Child18, Binding19}
+use Rattle.scan.specs.declared.rows.TableRule.the-variants.{Schema6, Type7, Child7, Type8, Type9, Property10, Key15, Constraint16, Property17, Property18, Child18, Binding19}
 
 unfoldable pub rowTest : Model → TableRule → ℕ → Bool
 rowTest m Schema6 k = schema6 m k
@@ -16,7 +16,6 @@ rowTest m Child7 k = child7b m k
 rowTest m Type8 k = type8 m k
 rowTest m Type9 k = type9 m k
 rowTest m Property10 k = property10 m k
-rowTest m Property11 k = property11 m k
 rowTest m Key15 k = key15 m k
 rowTest m Constraint16 k = constraint16 m k
 rowTest m Property17 k = property17 m k

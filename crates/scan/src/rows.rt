@@ -3,10 +3,11 @@ ghost use mathlib.Core.Path.{_≡_};
 ghost use mathlib.Core.List.{[]};
 ghost use Prim.Native.Nat.{_+_, _≤_};
 ghost use lib.ListN.{length};
+ghost use Rattle.lookup.specs.Index.{Indexed};
 ghost use Rattle.csdl.specs.Search.{firstFrom};
-ghost use Rattle.csdl.specs.Tables.{typeCount};
+ghost use Rattle.csdl.specs.Tables.{typeCount, propertyCount};
 ghost use Rattle.csdl.specs.Model.{modelOf};
-ghost use Rattle.csdl.specs.Properties.{type12};
+ghost use Rattle.csdl.specs.Properties.{property11, type12};
 ghost use Rattle.scan.specs.Limits.{Limits};
 ghost use Rattle.scan.specs.Rows.{rowTest, shifted};
 use bindings::bindings::binding_19;
@@ -33,7 +34,6 @@ pub enum TableRule {
     Type8,
     Type9,
     Property10,
-    Property11,
     Key15,
     Constraint16,
     Property17,
@@ -53,10 +53,11 @@ fn row_breaks(
     bindings: &[u8],
     segments: &[u8],
     names: &[u8],
+    index: &[u16],
     rule: TableRule,
     k: u16,
 ) -> bool
-    requires { ⌜ Limits (now schemas) (now types) (now properties) (now keys) (now constraints) (now children) (now bindings) (now segments) ⌝ }
+    requires { ⌜ Limits (now schemas) (now types) (now properties) (now keys) (now constraints) (now children) (now bindings) (now segments) × Indexed (now properties) (now names) (now index) ⌝ }
     ensures { λ r. ⌜ r ≡ rowTest (modelOf (now (schemas .entry)) (now (types .entry)) (now (properties .entry)) (now (keys .entry)) (now (constraints .entry)) (now (children .entry)) (now (bindings .entry)) (now (segments .entry)) (now (names .entry))) rule k ⌝ }
 {
     match rule {
@@ -66,17 +67,17 @@ fn row_breaks(
         TableRule::Type8 => type_8(types, k),
         TableRule::Type9 => type_9(types, k),
         TableRule::Property10 => property_10(types, properties, k),
-        TableRule::Property11 => property_11(types, properties, names, k),
-        TableRule::Key15 => key_15(types, properties, keys, segments, names, k),
+        TableRule::Key15 => key_15(types, properties, keys, segments, names, index, k),
         TableRule::Constraint16 => constraint_16(
             types,
             properties,
             constraints,
             segments,
             names,
+            index,
             k,
         ),
-        TableRule::Property17 => property_17(types, properties, segments, names, k),
+        TableRule::Property17 => property_17(types, properties, segments, names, index, k),
         TableRule::Property18 => property_18(types, properties, keys, k),
         TableRule::Child18 => child_18(types, keys, children, k),
         TableRule::Binding19 => binding_19(
@@ -86,6 +87,7 @@ fn row_breaks(
             bindings,
             segments,
             names,
+            index,
             k,
         ),
     }
@@ -102,11 +104,12 @@ pub fn first_row(
     bindings: &[u8],
     segments: &[u8],
     names: &[u8],
+    index: &[u16],
     rule: TableRule,
     at: u16,
     n: u16,
 ) -> u16
-    requires { ⌜ Limits (now schemas) (now types) (now properties) (now keys) (now constraints) (now children) (now bindings) (now segments) ⌝ }
+    requires { ⌜ Limits (now schemas) (now types) (now properties) (now keys) (now constraints) (now children) (now bindings) (now segments) × Indexed (now properties) (now names) (now index) ⌝ }
     requires { ⌜ (at ≤ 2048) × (n ≤ 1024) ⌝ }
     ensures { λ r. ⌜ r ≡ shifted at (firstFrom (rowTest (modelOf (now (schemas .entry)) (now (types .entry)) (now (properties .entry)) (now (keys .entry)) (now (constraints .entry)) (now (children .entry)) (now (bindings .entry)) (now (segments .entry)) (now (names .entry))) rule) 0 n) ⌝ }
 {
@@ -122,12 +125,35 @@ pub fn first_row(
             bindings,
             segments,
             names,
+            index,
             rule,
             k,
         ) {
             return at + k + 1;
         }
         k += 1;
+    }
+    0
+}
+
+// The same of rule 11, of properties, which goes along the index.
+pub fn first_11(
+    types: &[u8],
+    properties: &[u8],
+    names: &[u8],
+    index: &[u16],
+    at: u16,
+    n: u16,
+) -> u16
+    requires { ⌜ (length (now types) ≤ 384) × (length (now properties) ≤ 3584) × (at ≤ 2048) × (n ≤ propertyCount (now properties)) × Indexed (now properties) (now names) (now index) ⌝ }
+    ensures { λ r. ⌜ r ≡ shifted at (firstFrom (λ p. property11 (modelOf [] (now (types .entry)) (now (properties .entry)) [] [] [] [] [] (now (names .entry))) p) 0 n) ⌝ }
+{
+    let mut p: u16 = 0;
+    while p < n {
+        if property_11(types, properties, names, index, p) {
+            return at + p + 1;
+        }
+        p += 1;
     }
     0
 }

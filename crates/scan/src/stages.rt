@@ -3,6 +3,7 @@ ghost use mathlib.Core.Path.{_≡_};
 ghost use mathlib.Core.List.{[], _∷_};
 ghost use Prim.Native.Nat.{_+_, _≤_, _<_};
 ghost use lib.ListN.{length};
+ghost use Rattle.lookup.specs.Index.{Indexed};
 ghost use Rattle.csdl.specs.Tables.{schemaCount, typeCount, propertyCount, keyCount, constraintCount, childCount, bindingCount, segmentCount};
 ghost use Rattle.csdl.specs.Model.{modelOf};
 ghost use Rattle.csdl.specs.Form.{rule7};
@@ -14,6 +15,7 @@ ghost use Rattle.scan.specs.Rows.{shifted};
 ghost use Rattle.scan.specs.Stages as stages;
 ghost use Rattle.scan.specs.Stages.{formRule, ruleNo, lowestPlace};
 use crate::rows::TableRule;
+use crate::rows::first_11;
 use crate::rows::first_12;
 use crate::rows::first_row;
 use csdl::ModelAnswer;
@@ -22,6 +24,7 @@ use form::names::rule_5;
 use form::numbers::rule_4;
 use form::places::record_at;
 use form::spare::rule_3;
+use lookup::index::index_of;
 use records::bindings::binding_count;
 use records::children::child_count;
 use records::constraints::constraint_count;
@@ -288,8 +291,9 @@ fn first_7(
     bindings: &[u8],
     segments: &[u8],
     names: &[u8],
+    index: &[u16],
 ) -> u16
-    requires { ⌜ Limits (now schemas) (now types) (now properties) (now keys) (now constraints) (now children) (now bindings) (now segments) ⌝ }
+    requires { ⌜ Limits (now schemas) (now types) (now properties) (now keys) (now constraints) (now children) (now bindings) (now segments) × Indexed (now properties) (now names) (now index) ⌝ }
     ensures { λ r. ⌜ r ≡ lowestPlace (modelOf (now (schemas .entry)) (now (types .entry)) (now (properties .entry)) (now (keys .entry)) (now (constraints .entry)) (now (children .entry)) (now (bindings .entry)) (now (segments .entry)) (now (names .entry))) rule7 ⌝ }
 {
     let found = first_row(
@@ -302,6 +306,7 @@ fn first_7(
         bindings,
         segments,
         names,
+        index,
         TableRule::Type7,
         schema_count(schemas),
         type_count(types),
@@ -319,6 +324,7 @@ fn first_7(
         bindings,
         segments,
         names,
+        index,
         TableRule::Child7,
         children_at(schemas, types, properties, keys, constraints),
         child_count(children),
@@ -335,8 +341,9 @@ fn first_18(
     bindings: &[u8],
     segments: &[u8],
     names: &[u8],
+    index: &[u16],
 ) -> u16
-    requires { ⌜ Limits (now schemas) (now types) (now properties) (now keys) (now constraints) (now children) (now bindings) (now segments) ⌝ }
+    requires { ⌜ Limits (now schemas) (now types) (now properties) (now keys) (now constraints) (now children) (now bindings) (now segments) × Indexed (now properties) (now names) (now index) ⌝ }
     ensures { λ r. ⌜ r ≡ lowestPlace (modelOf (now (schemas .entry)) (now (types .entry)) (now (properties .entry)) (now (keys .entry)) (now (constraints .entry)) (now (children .entry)) (now (bindings .entry)) (now (segments .entry)) (now (names .entry))) rule18 ⌝ }
 {
     let found = first_row(
@@ -349,6 +356,7 @@ fn first_18(
         bindings,
         segments,
         names,
+        index,
         TableRule::Property18,
         properties_at(schemas, types),
         property_count(properties),
@@ -366,6 +374,7 @@ fn first_18(
         bindings,
         segments,
         names,
+        index,
         TableRule::Child18,
         children_at(schemas, types, properties, keys, constraints),
         child_count(children),
@@ -383,9 +392,10 @@ pub fn first_place(
     bindings: &[u8],
     segments: &[u8],
     names: &[u8],
+    index: &[u16],
     stage: u16,
 ) -> u16
-    requires { ⌜ Limits (now schemas) (now types) (now properties) (now keys) (now constraints) (now children) (now bindings) (now segments) ⌝ }
+    requires { ⌜ Limits (now schemas) (now types) (now properties) (now keys) (now constraints) (now children) (now bindings) (now segments) × Indexed (now properties) (now names) (now index) ⌝ }
     ensures { λ r. ⌜ r ≡ lowestPlace (modelOf (now (schemas .entry)) (now (types .entry)) (now (properties .entry)) (now (keys .entry)) (now (constraints .entry)) (now (children .entry)) (now (bindings .entry)) (now (segments .entry)) (now (names .entry))) (ruleNo stage) ⌝ }
 {
     match stage {
@@ -435,6 +445,7 @@ pub fn first_place(
             bindings,
             segments,
             names,
+            index,
             TableRule::Schema6,
             0,
             schema_count(schemas),
@@ -449,6 +460,7 @@ pub fn first_place(
             bindings,
             segments,
             names,
+            index,
         ),
         8 => first_row(
             schemas,
@@ -460,6 +472,7 @@ pub fn first_place(
             bindings,
             segments,
             names,
+            index,
             TableRule::Type8,
             schema_count(schemas),
             type_count(types),
@@ -474,6 +487,7 @@ pub fn first_place(
             bindings,
             segments,
             names,
+            index,
             TableRule::Type9,
             schema_count(schemas),
             type_count(types),
@@ -488,21 +502,16 @@ pub fn first_place(
             bindings,
             segments,
             names,
+            index,
             TableRule::Property10,
             properties_at(schemas, types),
             property_count(properties),
         ),
-        11 => first_row(
-            schemas,
+        11 => first_11(
             types,
             properties,
-            keys,
-            constraints,
-            children,
-            bindings,
-            segments,
             names,
-            TableRule::Property11,
+            index,
             properties_at(schemas, types),
             property_count(properties),
         ),
@@ -538,6 +547,7 @@ pub fn first_place(
                 bindings,
                 segments,
                 names,
+                index,
             ),
         ),
         15 => first_row(
@@ -550,6 +560,7 @@ pub fn first_place(
             bindings,
             segments,
             names,
+            index,
             TableRule::Key15,
             keys_at(schemas, types, properties),
             key_count(keys),
@@ -564,6 +575,7 @@ pub fn first_place(
             bindings,
             segments,
             names,
+            index,
             TableRule::Constraint16,
             constraints_at(schemas, types, properties, keys),
             constraint_count(constraints),
@@ -578,6 +590,7 @@ pub fn first_place(
             bindings,
             segments,
             names,
+            index,
             TableRule::Property17,
             properties_at(schemas, types),
             property_count(properties),
@@ -592,6 +605,7 @@ pub fn first_place(
             bindings,
             segments,
             names,
+            index,
         ),
         _ => first_row(
             schemas,
@@ -603,10 +617,55 @@ pub fn first_place(
             bindings,
             segments,
             names,
+            index,
             TableRule::Binding19,
             bindings_at(schemas, types, properties, keys, constraints, children),
             binding_count(bindings),
         ),
+    }
+}
+
+// Rules 3 to 19 one after the other.
+fn broken_stage(
+    schemas: &[u8],
+    types: &[u8],
+    properties: &[u8],
+    keys: &[u8],
+    constraints: &[u8],
+    children: &[u8],
+    bindings: &[u8],
+    segments: &[u8],
+    names: &[u8],
+    index: &[u16],
+) -> ModelAnswer
+    requires { ⌜ Limits (now schemas) (now types) (now properties) (now keys) (now constraints) (now children) (now bindings) (now segments) × Indexed (now properties) (now names) (now index) ⌝ }
+    ensures { λ r. ⌜ verdicts.modelMeans r ≡ verdicts.modelVerdict (modelOf (now (schemas .entry)) (now (types .entry)) (now (properties .entry)) (now (keys .entry)) (now (constraints .entry)) (now (children .entry)) (now (bindings .entry)) (now (segments .entry)) (now (names .entry))) (accepted (segmentCount (now (segments .entry)) ∷ [])) ⌝ }
+{
+    let mut stage: u16 = 3;
+    while stage < 20 {
+        let found = first_place(
+            schemas,
+            types,
+            properties,
+            keys,
+            constraints,
+            children,
+            bindings,
+            segments,
+            names,
+            index,
+            stage,
+        );
+        if found != 0 {
+            return ModelAnswer::Refused {
+                rule: stage,
+                place: found - 1,
+            };
+        }
+        stage += 1;
+    }
+    ModelAnswer::Accepted {
+        segments: segment_count(segments),
     }
 }
 
@@ -625,31 +684,19 @@ pub fn first_broken(
     requires { ⌜ Limits (now schemas) (now types) (now properties) (now keys) (now constraints) (now children) (now bindings) (now segments) ⌝ }
     ensures { λ r. ⌜ verdicts.modelMeans r ≡ verdicts.modelVerdict (modelOf (now (schemas .entry)) (now (types .entry)) (now (properties .entry)) (now (keys .entry)) (now (constraints .entry)) (now (children .entry)) (now (bindings .entry)) (now (segments .entry)) (now (names .entry))) (accepted (segmentCount (now (segments .entry)) ∷ [])) ⌝ }
 {
-    let mut stage: u16 = 3;
-    while stage < 20 {
-        let found = first_place(
-            schemas,
-            types,
-            properties,
-            keys,
-            constraints,
-            children,
-            bindings,
-            segments,
-            names,
-            stage,
-        );
-        if found != 0 {
-            return ModelAnswer::Refused {
-                rule: stage,
-                place: found - 1,
-            };
-        }
-        stage += 1;
-    }
-    ModelAnswer::Accepted {
-        segments: segment_count(segments),
-    }
+    let index = index_of(properties, names);
+    broken_stage(
+        schemas,
+        types,
+        properties,
+        keys,
+        constraints,
+        children,
+        bindings,
+        segments,
+        names,
+        &index,
+    )
 }
 
 // Whether rules 3 to 5 are unbroken at every place.

@@ -3,6 +3,7 @@ ghost use mathlib.Core.Path.{_≡_};
 ghost use mathlib.Core.List.{[]};
 ghost use Prim.Native.Nat.{_+_, _≤_, _<_};
 ghost use lib.ListN.{length};
+ghost use Rattle.lookup.specs.Index.{Indexed};
 ghost use Rattle.csdl.specs.Search.{firstFrom};
 ghost use Rattle.csdl.specs.Tables.{segmentCount};
 ghost use Rattle.csdl.specs.Model.{modelOf};
@@ -25,18 +26,28 @@ fn stuck_in(
     bindings: &[u8],
     segments: &[u8],
     names: &[u8],
+    index: &[u16],
     kind: u16,
     r: u16,
     top: u16,
 ) -> u16
-    requires { ⌜ (length (now types) ≤ 384) × (length (now properties) ≤ 3584) ⌝ }
+    requires { ⌜ (length (now types) ≤ 384) × (length (now properties) ≤ 3584) × Indexed (now properties) (now names) (now index) ⌝ }
     ensures { λ low. ⌜ Lowest (λ g. stuckIn (modelOf [] (now (types .entry)) (now (properties .entry)) (now (keys .entry)) (now (constraints .entry)) (now (children .entry)) (now (bindings .entry)) (now (segments .entry)) (now (names .entry))) (kindOf kind) g r) top low ⌝ }
 {
     let run = path_of(properties, keys, constraints, bindings, kind, r);
     let first = run.first;
     let count = run.count;
     let start = start_of(properties, keys, constraints, children, bindings, kind, r);
-    let t = trail_of(types, properties, segments, names, start, first, count);
+    let t = trail_of(
+        types,
+        properties,
+        segments,
+        names,
+        index,
+        start,
+        first,
+        count,
+    );
     let taken = t.taken;
     if count <= taken {
         return top;
@@ -58,10 +69,11 @@ fn stuck_kind(
     bindings: &[u8],
     segments: &[u8],
     names: &[u8],
+    index: &[u16],
     kind: u16,
     top: u16,
 ) -> u16
-    requires { ⌜ (length (now types) ≤ 384) × (length (now properties) ≤ 3584) × (length (now keys) ≤ 768) × (length (now constraints) ≤ 320) × (length (now bindings) ≤ 768) ⌝ }
+    requires { ⌜ (length (now types) ≤ 384) × (length (now properties) ≤ 3584) × (length (now keys) ≤ 768) × (length (now constraints) ≤ 320) × (length (now bindings) ≤ 768) × Indexed (now properties) (now names) (now index) ⌝ }
     ensures { λ low. ⌜ Lowest (λ g. stuck (modelOf [] (now (types .entry)) (now (properties .entry)) (now (keys .entry)) (now (constraints .entry)) (now (children .entry)) (now (bindings .entry)) (now (segments .entry)) (now (names .entry))) (kindOf kind) g) top low ⌝ }
 {
     let n = holder_count(properties, keys, constraints, bindings, kind);
@@ -76,6 +88,7 @@ fn stuck_kind(
             bindings,
             segments,
             names,
+            index,
             kind,
             r,
             low,
@@ -94,8 +107,9 @@ pub fn first_14(
     bindings: &[u8],
     segments: &[u8],
     names: &[u8],
+    index: &[u16],
 ) -> u16
-    requires { ⌜ (length (now types) ≤ 384) × (length (now properties) ≤ 3584) × (length (now keys) ≤ 768) × (length (now constraints) ≤ 320) × (length (now bindings) ≤ 768) × (length (now segments) ≤ 3072) ⌝ }
+    requires { ⌜ (length (now types) ≤ 384) × (length (now properties) ≤ 3584) × (length (now keys) ≤ 768) × (length (now constraints) ≤ 320) × (length (now bindings) ≤ 768) × (length (now segments) ≤ 3072) × Indexed (now properties) (now names) (now index) ⌝ }
     ensures { λ r. ⌜ r ≡ firstFrom (λ g. segment14 (modelOf [] (now (types .entry)) (now (properties .entry)) (now (keys .entry)) (now (constraints .entry)) (now (children .entry)) (now (bindings .entry)) (now (segments .entry)) (now (names .entry))) g) 0 (segmentCount (now (segments .entry))) ⌝ }
 {
     let n = segment_count(segments);
@@ -110,6 +124,7 @@ pub fn first_14(
             bindings,
             segments,
             names,
+            index,
             kind,
             low,
         );

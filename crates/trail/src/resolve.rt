@@ -5,6 +5,7 @@ ghost use mathlib.Core.Bool.{cond, _&&_};
 ghost use Prim.Native.Nat.{_≤_, _<_, _-_, _+_};
 ghost use lib.Dec.{eqb};
 ghost use lib.ListN.{length};
+ghost use Rattle.lookup.specs.Index.{Indexed};
 ghost use Rattle.csdl.specs.Model.{modelOf};
 ghost use Rattle.csdl.specs.Find as find;
 ghost use Rattle.csdl.specs.Path.{segmentAt, resolvesAt, stepAt, movesTo};
@@ -51,8 +52,16 @@ fn less_one(x: u16) -> u16
 }
 
 // Segment g resolved at t.
-fn move_at(types: &[u8], properties: &[u8], segments: &[u8], names: &[u8], t: u32, g: u16) -> Move
-    requires { ⌜ (length (now types) ≤ 384) × (length (now properties) ≤ 3584) ⌝ }
+fn move_at(
+    types: &[u8],
+    properties: &[u8],
+    segments: &[u8],
+    names: &[u8],
+    index: &[u16],
+    t: u32,
+    g: u16,
+) -> Move
+    requires { ⌜ (length (now types) ≤ 384) × (length (now properties) ≤ 3584) × Indexed (now properties) (now names) (now index) ⌝ }
     ensures { λ r. ⌜ r .ok ≡ resolvesAt (modelOf [] (now (types .entry)) (now (properties .entry)) [] [] [] [] (now (segments .entry)) (now (names .entry))) t (segmentAt (modelOf [] (now (types .entry)) (now (properties .entry)) [] [] [] [] (now (segments .entry)) (now (names .entry))) g) ⌝ }
     ensures { λ r. ⌜ r .code ≡ stepCode (stepAt (modelOf [] (now (types .entry)) (now (properties .entry)) [] [] [] [] (now (segments .entry)) (now (names .entry))) t (segmentAt (modelOf [] (now (types .entry)) (now (properties .entry)) [] [] [] [] (now (segments .entry)) (now (names .entry))) g)) ⌝ }
     ensures { λ r. ⌜ r .to ≡ movesTo (modelOf [] (now (types .entry)) (now (properties .entry)) [] [] [] [] (now (segments .entry)) (now (names .entry))) t (segmentAt (modelOf [] (now (types .entry)) (now (properties .entry)) [] [] [] [] (now (segments .entry)) (now (names .entry))) g) ⌝ }
@@ -70,6 +79,7 @@ fn move_at(types: &[u8], properties: &[u8], segments: &[u8], names: &[u8], t: u3
         types,
         properties,
         names,
+        index,
         segment_text(segments, names, g),
         t,
     );
@@ -100,11 +110,12 @@ pub fn trail_of(
     properties: &[u8],
     segments: &[u8],
     names: &[u8],
+    index: &[u16],
     start: u16,
     first: u16,
     count: u16,
 ) -> Trail
-    requires { ⌜ (length (now types) ≤ 384) × (length (now properties) ≤ 3584) × (first < 2048) × (count < 16) ⌝ }
+    requires { ⌜ (length (now types) ≤ 384) × (length (now properties) ≤ 3584) × (first < 2048) × (count < 16) × Indexed (now properties) (now names) (now index) ⌝ }
     ensures { λ r. ⌜ TrailOf (modelOf [] (now (types .entry)) (now (properties .entry)) [] [] [] [] (now (segments .entry)) (now (names .entry))) start first count (r .codes) (r .taken) (r .end) ⌝ }
 {
     let mut codes = [0u32; 16];
@@ -112,7 +123,7 @@ pub fn trail_of(
     let mut t: u32 = start as u32;
     let mut k: u16 = 0;
     while k < count {
-        let here = move_at(types, properties, segments, names, t, first + k);
+        let here = move_at(types, properties, segments, names, index, t, first + k);
         codes[k as usize] = here.code;
         taken = taken_on(here.ok, taken, k);
         t = here.to;

@@ -3,6 +3,7 @@ ghost use mathlib.Core.Path.{_≡_};
 ghost use mathlib.Core.List.{[]};
 ghost use Prim.Native.Nat.{_≤_};
 ghost use lib.ListN.{length};
+ghost use Rattle.lookup.specs.Index.{Indexed};
 ghost use Rattle.csdl.specs.Model.{modelOf};
 ghost use Rattle.csdl.specs.Find as find;
 use lookup::bases::is_at;
@@ -38,12 +39,19 @@ pub fn stands_at(types: &[u8], a: u32, t: u32) -> bool
 }
 
 // What the name means at t: 0 for none, else a property's number and 1.
-pub fn find_at(types: &[u8], properties: &[u8], names: &[u8], name: &[u8], t: u32) -> u16
-    requires { ⌜ (length (now types) ≤ 384) × (length (now properties) ≤ 3584) ⌝ }
+pub fn find_at(
+    types: &[u8],
+    properties: &[u8],
+    names: &[u8],
+    index: &[u16],
+    name: &[u8],
+    t: u32,
+) -> u16
+    requires { ⌜ (length (now types) ≤ 384) × (length (now properties) ≤ 3584) × Indexed (now properties) (now names) (now index) ⌝ }
     ensures { λ r. ⌜ (r ≡ find.find (modelOf [] (now (types .entry)) (now (properties .entry)) [] [] [] [] [] (now (names .entry))) (now (name .entry)) t) × (r ≤ 512) ⌝ }
 {
     if t >= 64 {
         return 0;
     }
-    find(types, properties, names, name, t as u16)
+    find(types, properties, names, index, name, t as u16)
 }

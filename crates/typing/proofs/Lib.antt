@@ -1,3 +1,4 @@
+pub mod Named
 pub mod Bools
 pub mod Frame
 pub mod Gather

@@ -1,8 +1,9 @@
 // Rule 11, of a property: a name declared again on the owner, or below an ancestor's property without right.
 ghost use mathlib.Core.Path.{_≡_};
 ghost use mathlib.Core.List.{[]};
-ghost use Prim.Native.Nat.{_≤_};
+ghost use Prim.Native.Nat.{_≤_, _<_};
 ghost use lib.ListN.{length};
+ghost use Rattle.lookup.specs.Index.{Indexed};
 ghost use Rattle.csdl.specs.Tables.{propertyCount};
 ghost use Rattle.csdl.specs.Search.{anyFrom};
 ghost use Rattle.csdl.specs.Model.{modelOf};
@@ -11,11 +12,12 @@ ghost use Rattle.typing.specs.Steps.{repeated, clash};
 use crate::bases::ancestors_of;
 use crate::sets::in_set;
 use lookup::bases::ancestor;
+use lookup::index::first_in_bucket;
+use lookup::index::next_in_bucket;
 use lookup::texts::property_text;
 use packed::same_bytes;
 use records::properties::property_collection;
 use records::properties::property_contains;
-use records::properties::property_count;
 use records::properties::property_navigation;
 use records::properties::property_nullable;
 use records::properties::property_owner;
@@ -48,15 +50,20 @@ fn repeats(properties: &[u8], names: &[u8], p: u16, q: u16) -> bool
 }
 
 // 11a: whether an earlier property of the owner has the name.
-fn declared_before(properties: &[u8], names: &[u8], p: u16) -> bool
+fn declared_before(properties: &[u8], names: &[u8], index: &[u16], p: u16) -> bool
+    requires { ⌜ (length (now properties) ≤ 3584) × (p < propertyCount (now properties)) × Indexed (now properties) (now names) (now index) ⌝ }
     ensures { λ r. ⌜ r ≡ rules.property11a (modelOf [] [] (now (properties .entry)) [] [] [] [] [] (now (names .entry))) p ⌝ }
 {
-    let mut q: u16 = 0;
-    while q < p {
+    let mut at = first_in_bucket(index, property_text(properties, names, p));
+    while 0 < at {
+        let q = at - 1;
+        if p <= q {
+            return false;
+        }
         if repeats(properties, names, p, q) {
             return true;
         }
-        q += 1;
+        at = next_in_bucket(index, q);
     }
     false
 }
@@ -105,40 +112,47 @@ fn clashes(types: &[u8], properties: &[u8], names: &[u8], above: u64, p: u16, q:
 }
 
 // Whether some property clashes with p.
-fn any_clash(types: &[u8], properties: &[u8], names: &[u8], above: u64, p: u16) -> bool
-    requires { ⌜ (length (now types) ≤ 384) × (length (now properties) ≤ 3584) ⌝ }
+fn any_clash(
+    types: &[u8],
+    properties: &[u8],
+    names: &[u8],
+    index: &[u16],
+    above: u64,
+    p: u16,
+) -> bool
+    requires { ⌜ (length (now types) ≤ 384) × (length (now properties) ≤ 3584) × Indexed (now properties) (now names) (now index) ⌝ }
     ensures { λ r. ⌜ r ≡ anyFrom (λ q. clash (modelOf [] (now (types .entry)) (now (properties .entry)) [] [] [] [] [] (now (names .entry))) above p q) 0 (propertyCount (now (properties .entry))) ⌝ }
 {
-    let n = property_count(properties);
-    let mut q: u16 = 0;
-    while q < n {
+    let mut at = first_in_bucket(index, property_text(properties, names, p));
+    while 0 < at {
+        let q = at - 1;
         if clashes(types, properties, names, above, p, q) {
             return true;
         }
-        q += 1;
+        at = next_in_bucket(index, q);
     }
     false
 }
 
 // 11b: whether a property of an ancestor has the name, and this one may not redeclare it.
-fn wrongly_redeclared(types: &[u8], properties: &[u8], names: &[u8], p: u16) -> bool
-    requires { ⌜ (length (now types) ≤ 384) × (length (now properties) ≤ 3584) ⌝ }
+fn wrongly_redeclared(types: &[u8], properties: &[u8], names: &[u8], index: &[u16], p: u16) -> bool
+    requires { ⌜ (length (now types) ≤ 384) × (length (now properties) ≤ 3584) × Indexed (now properties) (now names) (now index) ⌝ }
     ensures { λ r. ⌜ r ≡ rules.property11b (modelOf [] (now (types .entry)) (now (properties .entry)) [] [] [] [] [] (now (names .entry))) p ⌝ }
 {
     let above = ancestors_of(types, property_owner(properties, p));
     if above == 0 {
         return false;
     }
-    any_clash(types, properties, names, above, p)
+    any_clash(types, properties, names, index, above, p)
 }
 
 // Whether the property breaks rule 11.
-pub fn property_11(types: &[u8], properties: &[u8], names: &[u8], p: u16) -> bool
-    requires { ⌜ (length (now types) ≤ 384) × (length (now properties) ≤ 3584) ⌝ }
+pub fn property_11(types: &[u8], properties: &[u8], names: &[u8], index: &[u16], p: u16) -> bool
+    requires { ⌜ (length (now types) ≤ 384) × (length (now properties) ≤ 3584) × (p < propertyCount (now properties)) × Indexed (now properties) (now names) (now index) ⌝ }
     ensures { λ r. ⌜ r ≡ rules.property11 (modelOf [] (now (types .entry)) (now (properties .entry)) [] [] [] [] [] (now (names .entry))) p ⌝ }
 {
-    if declared_before(properties, names, p) {
+    if declared_before(properties, names, index, p) {
         return true;
     }
-    wrongly_redeclared(types, properties, names, p)
+    wrongly_redeclared(types, properties, names, index, p)
 }

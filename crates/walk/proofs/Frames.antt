@@ -1,26 +1,23 @@
 -- The walk over the tables that it reads is the walk over all tables, and over the images. Assumes nothing.
-use Prim.Native.Nat.{ℕ, _+_, _*_, _≤_}
+use Prim.Native.Nat.{ℕ, _+_, _*_}
 use mathlib.Core.Path.{_≡_, refl, ap, ap₂, _∙_}
 use mathlib.Core.List.{List, [], _∷_, _++_}
-use mathlib.Core.Bool.{false}
 use native.Mathlib.Omega.{arith}
-use lib.ListN.{length}
 use borrow.Author.Tests.{ne-eqb}
-use Rattle.packed.specs.Bytes.{between}
 use Rattle.packed.proofs.Laws.{field-lt}
 use Rattle.csdl.specs.Search.{tab, flat}
 use Rattle.csdl.specs.Model.{Model, modelOf, recordAt}
 use Rattle.csdl.specs.Find.{structured, isAt, ancestor}
-use Rattle.csdl.specs.Image.{modelIn, image1, typesFrom, propertiesFrom, keysFrom, constraintsFrom, childrenFrom, bindingsFrom, segmentsFrom, namesFrom, imageEnd}
+use Rattle.csdl.specs.Image.{modelIn}
 use Rattle.csdl.specs.Path.{Segment, Kind, segmentAt, pathOf, startOf}
 use Rattle.csdl.specs.Path.Segment.{name, cast}
-use Rattle.csdl.specs.Instance.{Instance, instanceOf, instanceIn, nodeTypeIn, slotsFrom, itemsFrom, instanceEnd}
+use Rattle.csdl.specs.Instance.{Instance, instanceOf, instanceIn, nodeTypeIn}
 use Rattle.csdl.specs.Walk.{Item, slotNamed, opening, openedBy, after, nextStage, walked, opened, bytesOfItem, pathChosen, walkPath, walk28, walk29}
 use Rattle.csdl.specs.Walk.Item.{null, held}
 use Rattle.csdl.specs.declared.Record.{Record}
 use Rattle.csdl.specs.declared.Record.the-variants.{OfSchema, OfType, OfProperty, OfKey, OfConstraint, OfChild, OfBinding, OfSegment, Nowhere}
 use Rattle.form.proofs.Frame.{record-at-frame}
-use Rattle.form.proofs.Parts.{layout, parts}
+use Rattle.parts.specs.Tables.{schemasIn, typesIn, propertiesIn, keysIn, constraintsIn, childrenIn, bindingsIn, segmentsIn, namesIn, nodesIn, slotsIn, itemsIn}
 use Rattle.segments.proofs.Frame.{path-frame, start-frame}
 use Rattle.traverse.specs.Seen.{walkModel, itemOf, pathFrom, written, openings}
 use Rattle.walk.specs.Along.{bytesAlong, openedAlong}
@@ -99,48 +96,31 @@ own-item nodes v = rw (ne-eqb (nodeTypeIn nodes v) 255 (λ e. omega (arith, fiel
 -- Over the parts of the images.
 module _ (model : List ℕ) where
   abbrev sc : List ℕ
-  sc = between model 20 (typesFrom model)
+  sc = schemasIn model
 
   abbrev ty : List ℕ
-  ty = between model (typesFrom model) (propertiesFrom model)
+  ty = typesIn model
 
   abbrev pr : List ℕ
-  pr = between model (propertiesFrom model) (keysFrom model)
+  pr = propertiesIn model
 
   abbrev ke : List ℕ
-  ke = between model (keysFrom model) (constraintsFrom model)
+  ke = keysIn model
 
   abbrev co : List ℕ
-  co = between model (constraintsFrom model) (childrenFrom model)
+  co = constraintsIn model
 
   abbrev ch : List ℕ
-  ch = between model (childrenFrom model) (bindingsFrom model)
+  ch = childrenIn model
 
   abbrev bi : List ℕ
-  bi = between model (bindingsFrom model) (segmentsFrom model)
+  bi = bindingsIn model
 
   abbrev sg : List ℕ
-  sg = between model (segmentsFrom model) (namesFrom model)
+  sg = segmentsIn model
 
   abbrev nm : List ℕ
-  nm = between model (namesFrom model) (imageEnd model)
-
-  -- What rule 1 leaves.
-  pub sizes : image1 model ≡ false →
-      (length sc ≤ 80) × (length ty ≤ 384) × (length pr ≤ 3584) × (length ke ≤ 768) × (length co ≤ 320) × (length ch ≤ 256) × (length bi ≤ 768)
-      × (length sg ≤ 3072)
-  sizes h =
-      let l = layout model h in
-      let p = parts model l in (
-        omega (arith, p .schemas, l .schemas),
-        omega (arith, p .types, l .types),
-        omega (arith, p .properties, l .properties),
-        omega (arith, p .keys, l .keys),
-        omega (arith, p .constraints, l .constraints),
-        omega (arith, p .children, l .children),
-        omega (arith, p .bindings, l .bindings),
-        omega (arith, p .segments, l .segments),
-      )
+  nm = namesIn model
 
   pub choice-in : (place n : ℕ) →
       pathChosen (modelOf sc ty pr ke co ch bi sg []) (recordAt (modelOf sc ty pr ke co ch bi sg []) place) n ≡ walkPath model place n
@@ -159,13 +139,13 @@ module _ (model : List ℕ) where
 
   module _ (image : List ℕ) where
     abbrev no : List ℕ
-    no = between image 8 (slotsFrom image)
+    no = nodesIn image
 
     abbrev sl : List ℕ
-    sl = between image (slotsFrom image) (itemsFrom image)
+    sl = slotsIn image
 
     abbrev it : List ℕ
-    it = between image (itemsFrom image) (instanceEnd image)
+    it = itemsIn image
 
     pub is-28 : (t v : ℕ) → walk28 (modelOf [] ty [] [] [] [] [] [] []) (instanceOf no [] []) t v ≡ walk28 (modelIn model) (instanceIn image) t v
     unfolding walk28 isAt ancestor modelOf modelIn instanceOf instanceIn

@@ -1,5 +1,4 @@
 // The walk of a path of the model through an instance.
-pub mod cut;
 pub mod images;
 
 ghost use mathlib.Core.Path.{_≡_};
@@ -35,11 +34,13 @@ fn walk_conforming(
     let c = choice_in(model, place, path);
     let kind = c.kind;
     let holder = c.holder;
-    if walk_27(kind, holder) {
+    let t = start_in(model, kind, holder);
+    let no_path = walk_27(kind, holder);
+    let bad_start = no_start(model, instance, t, node);
+    if no_path {
         return WalkAnswer::Refused { rule: 27, place: 0 };
     }
-    let t = start_in(model, kind, holder);
-    if no_start(model, instance, t, node) {
+    if bad_start {
         return WalkAnswer::Refused { rule: 28, place: 0 };
     }
     if short_results(instance, results) {

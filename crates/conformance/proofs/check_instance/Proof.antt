@@ -5,10 +5,6 @@ use Rattle.conformance.proofs.Then.{then-on, model-passes, model-stops}
 use borrow.Author.Needs.{needs}
 use Rattle.conformance.proofs.check_instance.Statement.{statement}
 use Rattle.conformance.proofs.check_instance.Tie as tie
-use Rattle.conformance.proofs.check_instance.Reads as reads
-use Rattle.conformance.proofs.check_instance.Lts as lts
-use Rattle.conformance.proofs.parts.check_parts.Reads as check-parts-reads
-use Rattle.model.proofs.check_rules.Reads as check-rules-reads
 
 check-rules-requires : tie.Need-check-rules-requires
 check-rules-requires c κs = search needs

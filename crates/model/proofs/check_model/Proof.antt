@@ -18,21 +18,21 @@ check-parts-requires c κs = layout _ (sym (c .before .before .before .bad-image
 
 write-parts-requires : tie.Need-write-parts-requires
 write-parts-requires c κs =
-    let e = c .before .before .before .before in
+    let e = c .before .before .before in
     let good = sym (e .before .before .before .before .bad-image .ensures) ∙ e .before .before .before .if1 .left in
-    (layout _ good, can-resolve _ good _ _ (e .check-parts .ensures) (c .before .before .answer .given .1), has-room _ good _ _ (e .before .before .header .ensures) (e .before .if2 .left))
+    (layout _ good, can-resolve _ good _ _ (e .check-parts .ensures) (c .before .enum-told .given .1), has-room _ good _ _ (e .before .before .header .ensures) (e .before .if2 .left))
 
 returns-3 : tie.Need-returns-3
 returns-3 c =
-    let e = c .before .before .before .before .before .before .before in
+    let e = c .before .before .before .before .before .before in
     let good = sym (e .before .before .before .before .bad-image .ensures) ∙ e .before .before .before .if1 .left in
-    answer-accepted _ _ good (roomy _ _ _ (e .before .before .header .ensures) (e .before .if2 .left)) _ (e .check-parts .ensures) _ (c .before .before .before .before .before .answer .given .1) _ (c .before .before .write-parts .ensures)
+    answer-accepted _ _ good (roomy _ _ _ (e .before .before .header .ensures) (e .before .if2 .left)) _ (e .check-parts .ensures) _ (c .before .before .before .before .enum-told .given .1) _ (c .before .before .write-parts .ensures)
 
 returns-4 : tie.Need-returns-4
 returns-4 c =
-    let e = c .before .before .before in
+    let e = c .before .before in
     let good = sym (e .before .before .before .before .bad-image .ensures) ∙ e .before .before .before .if1 .left in
-    answer-refused _ _ good (roomy _ _ _ (e .before .before .header .ensures) (e .before .if2 .left)) _ (e .check-parts .ensures) _ _ (c .before .answer2 .given .1)
+    answer-refused _ _ good (roomy _ _ _ (e .before .before .header .ensures) (e .before .if2 .left)) _ (e .check-parts .ensures) _ _ (c .enum-told2 .given .1)
 
 pub check-model-spec : {M : Type 1} → statement M
 check-model-spec =

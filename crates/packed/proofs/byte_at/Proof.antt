@@ -1,18 +1,11 @@
-use native.Mathlib.Omega.{arith}
-use mathlib.Core.Path.{refl, sym}
+use mathlib.Core.Path.{sym}
 use lib.ListN.{List·getD-eq-default}
 use borrow.Author.Needs.{needs}
 use Rattle.packed.proofs.byte_at.Statement.{statement}
 use Rattle.packed.proofs.byte_at.Tie as tie
 
-cast-result : tie.Need-cast-result
-cast-result c = omega (arith, c .shared-slice-known .given (c .before .before .args .i))
-
-returns : tie.Need-returns
-returns c = (refl, omega (arith, c .shared-slice-known .given (c .before .before .args .i)))
-
 returns-2 : tie.Need-returns-2
-returns-2 c = (sym (List·getD-eq-default (c .before .args .s .now) 0 (c .if1 .left)), search needs)
+returns-2 c = (sym (List·getD-eq-default (c .before .before .args .s .now) 0 (c .if1 .left)), search needs)
 
 pub byte-at-spec : {M : Type 1} → statement M
-byte-at-spec = tie.close (tie.spec (λ c. search needs) cast-result returns returns-2)
+byte-at-spec = tie.close (tie.spec (λ c κs. search needs) (λ c. search needs) returns-2)

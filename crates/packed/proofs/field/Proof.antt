@@ -22,9 +22,9 @@ loop-again c =
     let args = c .before .before .before .before .before .before .before .before .args in
     let done = c .before .before .before .before .before .before .loop .done in
     let n = c .before .before .before .least .result in
-    let m = 8 - c .before .before .before .before .in-byte .result - n in
+    let m = 32 - c .before .before .before .before .in-byte .result - n in
     let e : c .joined .result ≡ fieldOf (args .s .now) (args .off) (done + n) =
-    rw (c .joined .ensures, c .before .low-bits .ensures .0, c .before .before .byte-at .ensures .0, c .before .before .before .before .before .before .loop .inv .1)
+    rw (c .joined .ensures, c .before .low-bits .ensures .0, c .before .before .word-at .ensures, c .before .before .before .before .before .before .loop .inv .1)
     (field-more (args .s .now) (args .off) done n m (omega arith)) in
     (search needs, e, rw e (field-lt _ _ _))
 

@@ -25,19 +25,19 @@ slice-aggregate-write-run c = search needs
 
 write-run-requires : tie.Need-write-run-requires
 write-run-requires c κs =
-    let a = c .before .before .before .before .before .before .before .before .before .before .before .before .before .before .before .args in
+    let a = c .before .before .before .before .before .before .before .before .before .before .before .before .before .before .before .before .args in
     let t = c .before .before .before .trail-of in
-    let room = run-room (a .types .now) (a .properties .now) (a .keys .now) (a .constraints .now) (a .children .now) (a .bindings .now) (a .segments .now) (a .names .now) (kindOf (a .kind)) (a .r) _ _ _ (t .result .taken) (t .result .end) (t .result .codes) (c .before .before .before .before .start-of .ensures .0) (c .before .before .before .before .before .path-of .ensures .0) (c .before .before .before .before .before .path-of .ensures .1) (t .ensures) (c .before .before .before .before .before .before .before .before .before .before .before .before .before .before .before .pre .2) (c .before .before .before .before .before .before .before .before .before .before .before .before .before .before .before .pre .3) in
-    (search needs, search needs, omega (arith, room, c .before .before .before .before .before .before .before .before .before .before .before .before .before .before .before .pre .4), codes-fit (a .types .now) (a .properties .now) (a .keys .now) (a .constraints .now) (a .children .now) (a .bindings .now) (a .segments .now) (a .names .now) (kindOf (a .kind)) (a .r) _ _ _ (t .result .taken) (t .result .end) (t .result .codes) (c .before .before .before .before .start-of .ensures .0) (c .before .before .before .before .before .path-of .ensures .0) (c .before .before .before .before .before .path-of .ensures .1) (t .ensures) (c .before .before .before .before .before .before .before .before .before .before .before .before .before .before .before .pre .2) (c .before .before .before .before .before .before .before .before .before .before .before .before .before .before .before .pre .3))
+    let room = run-room (a .types .now) (a .properties .now) (a .keys .now) (a .constraints .now) (a .children .now) (a .bindings .now) (a .segments .now) (a .names .now) (kindOf (a .kind)) (a .r) _ _ _ (t .result .taken) (t .result .end) (t .result .codes) (c .before .before .before .before .start-of .ensures .0) (c .before .before .before .before .before .path-of .ensures .0) (c .before .before .before .before .before .path-of .ensures .1) (t .ensures) (c .before .before .before .before .before .before .before .before .before .before .before .before .before .before .before .before .pre .2) (c .before .before .before .before .before .before .before .before .before .before .before .before .before .before .before .before .pre .3) in
+    (search needs, search needs, omega (arith, room, c .before .before .before .before .before .before .before .before .before .before .before .before .before .before .before .before .pre .4), codes-fit (a .types .now) (a .properties .now) (a .keys .now) (a .constraints .now) (a .children .now) (a .bindings .now) (a .segments .now) (a .names .now) (kindOf (a .kind)) (a .r) _ _ _ (t .result .taken) (t .result .end) (t .result .codes) (c .before .before .before .before .start-of .ensures .0) (c .before .before .before .before .before .path-of .ensures .0) (c .before .before .before .before .before .path-of .ensures .1) (t .ensures) (c .before .before .before .before .before .before .before .before .before .before .before .before .before .before .before .before .pre .2) (c .before .before .before .before .before .before .before .before .before .before .before .before .before .before .before .before .pre .3))
 
 same-length : tie.Need-same-length
 same-length c = search needs
 
 returns : tie.Need-returns
 returns c =
-    let a = c .before .before .before .before .before .before .before .before .before .before .before .before .before .before .before .before .before .before .args in
+    let a = c .before .before .before .before .before .before .before .before .before .before .before .before .before .before .before .before .before .before .before .args in
     let t = c .before .before .before .before .before .before .trail-of in
-    run-step (a .types .now) (a .properties .now) (a .keys .now) (a .constraints .now) (a .children .now) (a .bindings .now) (a .segments .now) (a .names .now) (kindOf (a .kind)) (a .r) _ _ _ (t .result .taken) (t .result .end) (t .result .codes) (c .before .before .before .before .before .before .before .start-of .ensures .0) (c .before .before .before .before .before .before .before .before .path-of .ensures .0) (c .before .before .before .before .before .before .before .before .path-of .ensures .1) (t .ensures) (c .before .before .before .before .before .before .before .before .before .before .before .before .before .before .before .before .before .before .pre .2) (c .before .before .before .before .before .before .before .before .before .before .before .before .before .before .before .before .before .before .pre .3) (a .out .now) (c .before .before .write-run .last .1 .1 .1 .0) (c .before .before .write-run .ensures)
+    run-step (a .types .now) (a .properties .now) (a .keys .now) (a .constraints .now) (a .children .now) (a .bindings .now) (a .segments .now) (a .names .now) (kindOf (a .kind)) (a .r) _ _ _ (t .result .taken) (t .result .end) (t .result .codes) (c .before .before .before .before .before .before .before .start-of .ensures .0) (c .before .before .before .before .before .before .before .before .path-of .ensures .0) (c .before .before .before .before .before .before .before .before .path-of .ensures .1) (t .ensures) (c .before .before .before .before .before .before .before .before .before .before .before .before .before .before .before .before .before .before .before .pre .2) (c .before .before .before .before .before .before .before .before .before .before .before .before .before .before .before .before .before .before .before .pre .3) (a .out .now) (c .before .before .write-run .last .1 .1 .1 .0) (c .before .before .write-run .ensures)
 
 pub write-path-spec : {M : Type 1} → statement M
 write-path-spec =

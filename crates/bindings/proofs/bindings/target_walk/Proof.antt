@@ -8,7 +8,7 @@ returns : tie.Need-returns
 returns c =
     let t = c .before .before .before in
     let r = t .before .before .before in
-    let s = r .before .before .before .before .before .before .before in
+    let s = r .before .before .before .before .before .before .before .before in
     let h = s .pre .1 in
     let o = t .before .before .binding-target .ensures .0 in
     let e = t .before .child-type .ensures .0 in (

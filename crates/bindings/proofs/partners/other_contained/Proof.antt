@@ -23,7 +23,7 @@ unfolding modelOf otherContained isAt ancestor
 returns-3 c =
     let d = c .before .before in
     let b = d .before .before .before in
-    let a = b .before .before .before .before .before .before .before .args in
+    let a = b .before .before .before .before .before .before .before .before .args in
     rw (← b .before .before .other-with-partner .ensures, not-false (b .before .before .other-with-partner .result) (b .before .if1 .left), ← b .property-owner .ensures .0, ← d .before .before .property-owner2 .ensures .0, ← d .before .is-at .ensures, not-false (d .before .is-at .result) (d .if2 .left))
     (rw (le-ltb _ _ (c .if3 .taken)) at (c .before .partner-code .ensures (λ x. propertyContains (a .properties .now) x)))
 
@@ -32,7 +32,7 @@ unfolding modelOf otherContained isAt ancestor
 returns-4 c =
     let d = c .before .before .before in
     let b = d .before .before .before in
-    let a = b .before .before .before .before .before .before .before .args in
+    let a = b .before .before .before .before .before .before .before .before .args in
     rw (← b .before .before .other-with-partner .ensures, not-false (b .before .before .other-with-partner .result) (b .before .if1 .left), ← b .property-owner .ensures .0, ← d .before .before .property-owner2 .ensures .0, ← d .before .is-at .ensures, not-false (d .before .is-at .result) (d .if2 .left))
     (c .property-contains .ensures ∙ (rw (lt-ltb _ _ (c .before .if3 .left)) at (c .before .before .partner-code .ensures (λ x. propertyContains (a .properties .now) x))))
 

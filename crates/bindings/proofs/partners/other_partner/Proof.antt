@@ -15,7 +15,7 @@ returns c = rw (← c .before .before .property-partner .ensures .1, eq-eqb _ _ 
 returns-2 : tie.Need-returns-2
 unfolding modelOf otherPartner
 returns-2 c =
-    let a = c .before .before .before .before .before .before .before .before .args in
+    let a = c .before .before .before .before .before .before .before .before .before .args in
     rw (← c .before .before .before .property-partner .ensures .1, ne-eqb _ _ (c .before .if1 .left)) (ap not (c .partner-code .ensures (λ x. eqb x (a .p))))
 
 pub other-partner-spec : {M : Type 1} → statement M

@@ -8,7 +8,7 @@ use Rattle.bindings.proofs.partners.partner_code.Tie as tie
 returns : tie.Need-returns
 returns c =
     let t = c .before .before .before in
-    let s = t .before .before .before .before .before .before .before in
+    let s = t .before .before .before .before .before .before .before .before in
     let run = t .before .before .property-partner .ensures in
     λ test. ap (λ x. isCode test x) (c .last-code .ensures) ∙ partner-is _ _ _ _ (s .pre .1) (s .args .p) _ _ _ _ _ _ (t .before .property-type-ref .ensures .0) (run .0) (run .1) (t .trail-of .ensures) test
 

@@ -13,7 +13,7 @@ returns-2 c =
     let l = c .before .before .before .before in
     let t = l .before .before .before in
     let run = t .before .before .before .property-partner .ensures in
-    let s = t .before .before .before .before .before .before .before .before in
+    let s = t .before .before .before .before .before .before .before .before .before in
     let e = t .before .property-type-ref .ensures .0 in
     partner-whole _ _ _ _ _ _ (run .1) (t .before .before .if1 .left) _ _ _
     (c .before .partner-codes .ensures ∙ partner-path _ _ _ _ (s .pre .1) (s .args .p) _ _ _ _ _ _ e (run .0) (run .1) (t .trail-of .ensures))

@@ -13,10 +13,10 @@ use Rattle.bindings.proofs.partners.shared_containment.Statement.{state
 use Rattle.bindings.proofs.partners.shared_containment.Tie as tie
 
 abbrev Inv-loop : tie.InvT-loop
-Inv-loop types properties segments names p q n x₀ x = Any (λ k. otherContained (modelOf [] types properties [] [] [] [] segments names) p k) n x × (n ≤ 512)
+Inv-loop types properties segments names index p q n x₀ x = Any (λ k. otherContained (modelOf [] types properties [] [] [] [] segments names) p k) n x × (n ≤ 512)
 
 abbrev μ-loop : tie.MeasureT-loop
-μ-loop types properties segments names p q n x₀ x = n - x
+μ-loop types properties segments names index p q n x₀ x = n - x
 
 returns : tie.Need-returns Inv-loop μ-loop
 unfolding modelOf sharedContainment
@@ -29,7 +29,7 @@ returns-2 : tie.Need-returns-2 Inv-loop μ-loop
 unfolding modelOf sharedContainment
 returns-2 c =
     let l = c .before .before .before in
-    let a = l .before .before .before .before .before .before .before .before .args in
+    let a = l .before .before .before .before .before .before .before .before .before .args in
     let m = modelOf [] (a .types .now) (a .properties .now) [] [] [] [] (a .segments .now) (a .names .now) in
     rw (← l .before .before .before .property-contains .ensures, not-false (l .before .before .before .property-contains .result) (l .before .before .if1 .left))
     (any-hit _ _ _ _ (l .loop .inv .0) (c .before .before .loop-test .taken) (c .before .other-contained .ensures) (c .if2 .taken) ∙ ap (λ k. anyFrom (λ x. otherContained m (a .p) x) 0 k) (l .before .property-count .ensures .0))
@@ -42,7 +42,7 @@ returns-3 : tie.Need-returns-3 Inv-loop μ-loop
 unfolding modelOf sharedContainment
 returns-3 c =
     let l = c .before in
-    let a = l .before .before .before .before .before .before .before .before .args in
+    let a = l .before .before .before .before .before .before .before .before .before .args in
     let m = modelOf [] (a .types .now) (a .properties .now) [] [] [] [] (a .segments .now) (a .names .now) in
     rw (← l .before .before .before .property-contains .ensures, not-false (l .before .before .before .property-contains .result) (l .before .before .if1 .left))
     (any-end _ _ _ (l .loop .inv .0) (omega arith) ∙ ap (λ k. anyFrom (λ x. otherContained m (a .p) x) 0 k) (l .before .property-count .ensures .0))

@@ -2,6 +2,7 @@ use Prim.Native.Nat.{_-_, _≤_, _<_}
 use mathlib.Core.List.{[]}
 use lib.ListN.{length}
 use Rattle.csdl.specs.Model.{modelOf}
+use Rattle.lookup.specs.Index.{Indexed}
 use Rattle.lookup.proofs.Loops.{Any, any}
 use Rattle.conform.specs.Parts.{unlikeAt}
 use borrow.Author.Needs.{needs}
@@ -9,18 +10,18 @@ use Rattle.conform.proofs.rules.any_unlike.Statement.{statement}
 use Rattle.conform.proofs.rules.any_unlike.Tie as tie
 
 abbrev Inv-loop : tie.InvT-loop
-Inv-loop types properties names slots t first count n p₀ p =
+Inv-loop types properties names index slots t first count n p₀ p =
     Any (λ k. unlikeAt (modelOf [] types properties [] [] [] [] [] names) slots t (record { first = first; count = count }) k) n p × (n ≤ 512) × (length types ≤ 384)
-    × (length properties ≤ 3584) × (first < 2048) × (count < 1024)
+    × (length properties ≤ 3584) × (first < 2048) × (count < 1024) × Indexed properties names index
 
 abbrev μ-loop : tie.MeasureT-loop
-μ-loop types properties names slots t first count n p₀ p = n - p
+μ-loop types properties names index slots t first count n p₀ p = n - p
 
 property-count-requires : tie.Need-property-count-requires Inv-loop μ-loop
 property-count-requires c κs = search needs
 
 loop-holds : tie.Need-loop-holds Inv-loop μ-loop
-loop-holds c = (search any, search needs, search needs, search needs, search needs, search needs)
+loop-holds c = (search any, search needs, search needs, search needs, search needs, search needs, search needs)
 
 slots-unlike-requires : tie.Need-slots-unlike-requires Inv-loop μ-loop
 slots-unlike-requires c κs = search needs
@@ -35,7 +36,7 @@ loop-less : tie.Need-loop-less Inv-loop μ-loop
 loop-less c = search needs
 
 loop-again : tie.Need-loop-again Inv-loop μ-loop
-loop-again c = (search any, search needs, search needs, search needs, search needs, search needs)
+loop-again c = (search any, search needs, search needs, search needs, search needs, search needs, search needs)
 
 returns-2 : tie.Need-returns-2 Inv-loop μ-loop
 returns-2 c = rw (← c .before .before .property-count .ensures .0) (search any)

@@ -18,7 +18,7 @@ is-at-requires c κs = search needs
 returns : tie.Need-returns
 unfolding modelOf
 returns c =
-    let a = c .before .before .before .before .before .before .args in
+    let a = c .before .before .before .before .before .before .before .args in
     let m = modelOf [] (a .types .now) (a .properties .now) [] [] [] [] [] (a .names .now) in
     let e = sym (c .before .is-at .ensures ∙ is-at-frame [] (a .types .now) (a .properties .now) [] [] [] [] [] (a .names .now) _ _ ∙ ap (λ x. isAt m x (a .t)) (c .before .before .property-owner .ensures .0)) in
     not-named m (a .t) (a .p) (e ∙ not-true _ (c .if1 .taken))

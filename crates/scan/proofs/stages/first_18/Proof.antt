@@ -1,3 +1,4 @@
+use native.Mathlib.Omega.{arith}
 use Rattle.csdl.specs.Model.{modelOf}
 use Rattle.csdl.specs.Paths.{rule18}
 use Rattle.scan.specs.Rows.{rowTest}
@@ -15,6 +16,9 @@ returns-2 : tie.Need-returns-2
 unfolding lowestPlace rule18 rowTest modelOf
 returns-2 c = property-child _ _ _ (properties-placed _ _ (c .before .before .before .before .before .before .properties-at .ensures .0) (c .before .before .before .before .before .property-count .ensures .0) (c .before .before .before .before .first-row .ensures)) (c .before .before .before .if1 .left) (children-placed _ _ (c .before .before .children-at .ensures .0) (c .before .child-count .ensures .0) (c .first-row2 .ensures))
 
+first-row-requires-2 : tie.Need-first-row-requires-2
+first-row-requires-2 c κs = (c .before .before .before .before .before .before .before .before .before .before .before .before .before .before .before .before .pre, (omega arith, omega arith))
+
 pub first-18-spec : {M : Type 1} → statement M
 first-18-spec =
     tie.close
@@ -25,5 +29,5 @@ first-18-spec =
     returns
     (λ c κs. search needs)
     (λ c κs. search needs)
-    (λ c κs. search needs)
+    first-row-requires-2
     returns-2)

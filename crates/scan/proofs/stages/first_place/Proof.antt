@@ -1,5 +1,5 @@
 use mathlib.Core.Path.{_∙_}
-use Rattle.scan.proofs.Frame.{lowest-12, lowest-13, lowest-14}
+use Rattle.scan.proofs.Frame.{lowest-11, lowest-12, lowest-13, lowest-14}
 use Rattle.csdl.specs.Model.{modelOf}
 use Rattle.scan.specs.Rows.{rowTest}
 use Rattle.scan.specs.Stages.{formRule, ruleNo, lowestPlace}
@@ -50,8 +50,9 @@ unfolding lowestPlace ruleNo rowTest modelOf
 returns-8 c = rw (c .before .before .before .match .keys8) (properties-placed _ _ (c .before .before .properties-at .ensures .0) (c .before .property-count .ensures .0) (c .first-row4 .ensures))
 
 returns-9 : tie.Need-returns-9
-unfolding lowestPlace ruleNo rowTest modelOf
-returns-9 c = rw (c .before .before .before .match .keys9) (properties-placed _ _ (c .before .before .properties-at2 .ensures .0) (c .before .property-count2 .ensures .0) (c .first-row5 .ensures))
+returns-9 c =
+    rw (c .before .before .before .match .keys9)
+    (lowest-11 _ _ _ _ _ _ _ _ _ _ _ _ (c .before .before .properties-at2 .ensures .0) (c .before .property-count2 .ensures .0) (c .first-11 .ensures))
 
 returns-10 : tie.Need-returns-10
 returns-10 c =
@@ -70,15 +71,15 @@ returns-12 c =
 
 returns-13 : tie.Need-returns-13
 unfolding lowestPlace ruleNo rowTest modelOf
-returns-13 c = rw (c .before .before .before .match .keys13) (keys-placed _ _ (c .before .before .keys-at .ensures .0) (c .before .key-count .ensures .0) (c .first-row6 .ensures))
+returns-13 c = rw (c .before .before .before .match .keys13) (keys-placed _ _ (c .before .before .keys-at .ensures .0) (c .before .key-count .ensures .0) (c .first-row5 .ensures))
 
 returns-14 : tie.Need-returns-14
 unfolding lowestPlace ruleNo rowTest modelOf
-returns-14 c = rw (c .before .before .before .match .keys14) (constraints-placed _ _ (c .before .before .constraints-at .ensures .0) (c .before .constraint-count .ensures .0) (c .first-row7 .ensures))
+returns-14 c = rw (c .before .before .before .match .keys14) (constraints-placed _ _ (c .before .before .constraints-at .ensures .0) (c .before .constraint-count .ensures .0) (c .first-row6 .ensures))
 
 returns-15 : tie.Need-returns-15
 unfolding lowestPlace ruleNo rowTest modelOf
-returns-15 c = rw (c .before .before .before .match .keys15) (properties-placed _ _ (c .before .before .properties-at3 .ensures .0) (c .before .property-count3 .ensures .0) (c .first-row8 .ensures))
+returns-15 c = rw (c .before .before .before .match .keys15) (properties-placed _ _ (c .before .before .properties-at3 .ensures .0) (c .before .property-count3 .ensures .0) (c .first-row7 .ensures))
 
 returns-16 : tie.Need-returns-16
 unfolding lowestPlace ruleNo
@@ -88,7 +89,7 @@ returns-17 : tie.Need-returns-17
 unfolding lowestPlace rowTest modelOf
 returns-17 c =
     let e = c .before .before .before .match in
-    bindings-placed _ _ (c .before .before .bindings-at .ensures .0) (c .before .binding-count .ensures .0) (c .first-row9 .ensures)
+    bindings-placed _ _ (c .before .before .bindings-at .ensures .0) (c .before .binding-count .ensures .0) (c .first-row8 .ensures)
     ∙ last-place _ _
     (e .rest .0 .0 .0 .0 .0 .0 .0 .0 .0 .0 .0 .0 .0 .0 .0 .1)
     (e .rest .0 .0 .0 .0 .0 .0 .0 .0 .0 .0 .0 .0 .0 .0 .1)

@@ -15,17 +15,17 @@ use Rattle.records.proofs.segments.segment_count.Reads as segment-count-reads
 use Rattle.segments.proofs.stuck.stuck_kind.Reads as stuck-kind-reads
 
 abbrev Inv-loop : tie.InvT-loop
-Inv-loop types properties keys constraints children bindings segments names n low₀ kind₀ low kind = (kind ≤ 6) × (n ≤ 1024) × Least (λ j g. stuck (modelOf [] types properties keys constraints children bindings segments names) (kindOf j) g) n kind low
+Inv-loop types properties keys constraints children bindings segments names index n low₀ kind₀ low kind = (kind ≤ 6) × (n ≤ 1024) × Least (λ j g. stuck (modelOf [] types properties keys constraints children bindings segments names) (kindOf j) g) n kind low
 
 abbrev μ-loop : tie.MeasureT-loop
-μ-loop types properties keys constraints children bindings segments names n low₀ kind₀ low kind = 6 - kind
+μ-loop types properties keys constraints children bindings segments names index n low₀ kind₀ low kind = 6 - kind
 
 segment-count-requires : tie.Need-segment-count-requires Inv-loop μ-loop
 segment-count-requires c κs = search needs
 
 loop-holds : tie.Need-loop-holds Inv-loop μ-loop
 loop-holds c =
-    let a = c .before .before .before .before .before .before .before .before .before .args in
+    let a = c .before .before .before .before .before .before .before .before .before .before .args in
     (search needs, search needs, least-start (λ j g. stuck (modelOf [] (a .types .now) (a .properties .now) (a .keys .now) (a .constraints .now) (a .children .now) (a .bindings .now) (a .segments .now) (a .names .now)) (kindOf j) g) (c .segment-count .result))
 
 stuck-kind-requires : tie.Need-stuck-kind-requires Inv-loop μ-loop
@@ -39,7 +39,7 @@ loop-less c = search needs
 
 loop-again : tie.Need-loop-again Inv-loop μ-loop
 loop-again c =
-    let a = c .before .before .before .before .before .before .before .before .before .before .before .before .args in
+    let a = c .before .before .before .before .before .before .before .before .before .before .before .before .before .args in
     let l = c .before .before .loop in
     (search needs, search needs, least-more (λ j g. stuck (modelOf [] (a .types .now) (a .properties .now) (a .keys .now) (a .constraints .now) (a .children .now) (a .bindings .now) (a .segments .now) (a .names .now)) (kindOf j) g) (c .before .before .before .segment-count .result) (l .kind) (l .low) (c .stuck-kind .result) (l .inv .2) (c .stuck-kind .ensures))
 
@@ -48,7 +48,7 @@ add-result c = search needs
 
 returns : tie.Need-returns Inv-loop μ-loop
 returns c =
-    let a = c .before .before .before .before .before .before .before .before .before .before .before .before .args in
+    let a = c .before .before .before .before .before .before .before .before .before .before .before .before .before .args in
     let l = c .before .before .loop in
     let n = c .before .before .before .segment-count in
     let e : l .kind ≡ 6 = omega arith in
@@ -56,7 +56,7 @@ returns c =
 
 returns-2 : tie.Need-returns-2 Inv-loop μ-loop
 returns-2 c =
-    let a = c .before .before .before .before .before .before .before .before .before .before .before .before .args in
+    let a = c .before .before .before .before .before .before .before .before .before .before .before .before .before .args in
     let l = c .before .before .loop in
     let n = c .before .before .before .segment-count in
     let e : l .kind ≡ 6 = omega arith in

@@ -20,7 +20,7 @@ trail-of-requires c κs = search needs
 
 returns : tie.Need-returns
 returns c =
-    let a = c .before .before .before .before .before .before .before .before .before .before .before .before .args in
+    let a = c .before .before .before .before .before .before .before .before .before .before .before .before .before .args in
     let p = c .before .before .before .path-of .ensures in
     let t = c .before .trail-of in
     path-never (a .types .now) (a .properties .now) (a .keys .now) (a .constraints .now) (a .children .now) (a .bindings .now) (a .segments .now) (a .names .now) (kindOf (a .kind)) (a .r) _ _ _ (t .result .taken) (t .result .end) (t .result .codes) (c .before .before .start-of .ensures .0) (p .0) (p .1) (t .ensures) (a .top) (c .if1 .taken)
@@ -30,14 +30,14 @@ add-at c = search needs
 
 returns-2 : tie.Need-returns-2
 returns-2 c =
-    let a = c .before .before .before .before .before .before .before .before .before .before .before .before .before .args in
+    let a = c .before .before .before .before .before .before .before .before .before .before .before .before .before .before .args in
     let p = c .before .before .before .before .path-of .ensures in
     let t = c .before .before .trail-of in
     path-later (a .types .now) (a .properties .now) (a .keys .now) (a .constraints .now) (a .children .now) (a .bindings .now) (a .segments .now) (a .names .now) (kindOf (a .kind)) (a .r) _ _ _ (t .result .taken) (t .result .end) (t .result .codes) (c .before .before .before .start-of .ensures .0) (p .0) (p .1) (t .ensures) (a .top) (c .if2 .taken)
 
 returns-3 : tie.Need-returns-3
 returns-3 c =
-    let a = c .before .before .before .before .before .before .before .before .before .before .before .before .before .args in
+    let a = c .before .before .before .before .before .before .before .before .before .before .before .before .before .before .args in
     let p = c .before .before .before .before .path-of .ensures in
     let t = c .before .before .trail-of in
     path-here (a .types .now) (a .properties .now) (a .keys .now) (a .constraints .now) (a .children .now) (a .bindings .now) (a .segments .now) (a .names .now) (kindOf (a .kind)) (a .r) _ _ _ (t .result .taken) (t .result .end) (t .result .codes) (c .before .before .before .start-of .ensures .0) (p .0) (p .1) (t .ensures) (a .top) (c .before .if1 .left) (c .if2 .left)

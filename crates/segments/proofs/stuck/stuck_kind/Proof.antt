@@ -17,17 +17,17 @@ use Rattle.segments.proofs.kinds.holder_count.Reads as holder-count-rea
 use Rattle.segments.proofs.stuck.stuck_in.Reads as stuck-in-reads
 
 abbrev Inv-loop : tie.InvT-loop
-Inv-loop types properties keys constraints children bindings segments names kind top n low₀ r₀ low r = (r ≤ n) × Least (λ j g. stuckIn (modelOf [] types properties keys constraints children bindings segments names) (kindOf kind) g j) top r low
+Inv-loop types properties keys constraints children bindings segments names index kind top n low₀ r₀ low r = (r ≤ n) × Least (λ j g. stuckIn (modelOf [] types properties keys constraints children bindings segments names) (kindOf kind) g j) top r low
 
 abbrev μ-loop : tie.MeasureT-loop
-μ-loop types properties keys constraints children bindings segments names kind top n low₀ r₀ low r = n - r
+μ-loop types properties keys constraints children bindings segments names index kind top n low₀ r₀ low r = n - r
 
 holder-count-requires : tie.Need-holder-count-requires Inv-loop μ-loop
 holder-count-requires c κs = search needs
 
 loop-holds : tie.Need-loop-holds Inv-loop μ-loop
 loop-holds c =
-    let a = c .before .before .before .before .before .before .before .before .before .args in
+    let a = c .before .before .before .before .before .before .before .before .before .before .args in
     (search needs, least-start (λ j g. stuckIn (modelOf [] (a .types .now) (a .properties .now) (a .keys .now) (a .constraints .now) (a .children .now) (a .bindings .now) (a .segments .now) (a .names .now)) (kindOf (a .kind)) g j) (a .top))
 
 stuck-in-requires : tie.Need-stuck-in-requires Inv-loop μ-loop
@@ -41,13 +41,13 @@ loop-less c = search needs
 
 loop-again : tie.Need-loop-again Inv-loop μ-loop
 loop-again c =
-    let a = c .before .before .before .before .before .before .before .before .before .before .before .before .args in
+    let a = c .before .before .before .before .before .before .before .before .before .before .before .before .before .args in
     let l = c .before .before .loop in
     (search needs, least-more (λ j g. stuckIn (modelOf [] (a .types .now) (a .properties .now) (a .keys .now) (a .constraints .now) (a .children .now) (a .bindings .now) (a .segments .now) (a .names .now)) (kindOf (a .kind)) g j) (a .top) (l .r) (l .low) (c .stuck-in .result) (l .inv .1) (c .stuck-in .ensures))
 
 returns : tie.Need-returns Inv-loop μ-loop
 returns c =
-    let a = c .before .before .before .before .before .before .before .before .before .before .before .args in
+    let a = c .before .before .before .before .before .before .before .before .before .before .before .before .args in
     let l = c .before .loop in
     let e : l .r ≡ c .before .before .holder-count .result = omega arith in
     lowest-kind (modelOf [] (a .types .now) (a .properties .now) (a .keys .now) (a .constraints .now) (a .children .now) (a .bindings .now) (a .segments .now) (a .names .now)) (kindOf (a .kind)) (a .top) (l .r) (l .low)

@@ -10,10 +10,10 @@ use Rattle.trail.proofs.resolve.trail_of.Statement.{statement}
 use Rattle.trail.proofs.resolve.trail_of.Tie as tie
 
 abbrev Inv-loop : tie.InvT-loop
-Inv-loop types properties segments names start first count codes₀ taken₀ t₀ k₀ codes taken t k = TrailOf (modelOf [] types properties [] [] [] [] segments names) start first k codes taken t × (k ≤ count) × (count < 16) × (first < 2048)
+Inv-loop types properties segments names index start first count codes₀ taken₀ t₀ k₀ codes taken t k = TrailOf (modelOf [] types properties [] [] [] [] segments names) start first k codes taken t × (k ≤ count) × (count < 16) × (first < 2048)
 
 abbrev μ-loop : tie.MeasureT-loop
-μ-loop types properties segments names start first count codes₀ taken₀ t₀ k₀ codes taken t k = count - k
+μ-loop types properties segments names index start first count codes₀ taken₀ t₀ k₀ codes taken t k = count - k
 
 loop-holds : tie.Need-loop-holds Inv-loop μ-loop
 loop-holds c = (trail-start _ _ _ _ refl, search needs, search needs, search needs)
@@ -26,7 +26,7 @@ loop-again c =
 returns : tie.Need-returns Inv-loop μ-loop
 returns c =
     let l = c .before .loop in
-    let e : l .k ≡ c .before .before .before .before .before .before .args .count = omega arith in
+    let e : l .k ≡ c .before .before .before .before .before .before .before .args .count = omega arith in
     rw (← e) (l .inv .0)
 
 pub trail-of-spec : {M : Type 1} → statement M

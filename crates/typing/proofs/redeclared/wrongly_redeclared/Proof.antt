@@ -15,7 +15,7 @@ use Rattle.typing.proofs.redeclared.wrongly_redeclared.Tie as tie
 returns : tie.Need-returns
 unfolding modelOf ancestor
 returns c =
-    let a = c .before .before .before .before .before .before .args in
+    let a = c .before .before .before .before .before .before .before .args in
     let above = c .before .ancestors-of in
     let m = modelOf [] (a .types .now) (a .properties .now) [] [] [] [] [] (a .names .now) in
     let all : (q : ℕ) → member (above .result) (m .owner q) ≡ ancestor m (m .owner q) (m .owner (a .p)) =
@@ -25,7 +25,7 @@ returns c =
 returns-2 : tie.Need-returns-2
 unfolding modelOf ancestor
 returns-2 c =
-    let a = c .before .before .before .before .before .before .before .args in
+    let a = c .before .before .before .before .before .before .before .before .args in
     let above = c .before .before .ancestors-of in
     let m = modelOf [] (a .types .now) (a .properties .now) [] [] [] [] [] (a .names .now) in
     let all : (q : ℕ) → member (above .result) (m .owner q) ≡ ancestor m (m .owner q) (m .owner (a .p)) =

@@ -1,13 +1,15 @@
 use mathlib.Core.Path.{_∙_}
+use Rattle.form.proofs.Parts.{layout}
 use Rattle.nodes.proofs.Sizes.{sized}
-use Rattle.walk.proofs.Frames.{sizes, is-28}
+use Rattle.parts.proofs.Sizes.{sizes}
+use Rattle.walk.proofs.Frames.{is-28}
 use borrow.Author.Needs.{needs}
 use Rattle.walk.proofs.images.no_start.Statement.{statement}
 use Rattle.walk.proofs.images.no_start.Tie as tie
 
 walk-28-requires : tie.Need-walk-28-requires
 walk-28-requires c κs = let a = c .before .before .before .before .args in
-    rw (c .before .types-of .ensures, c .nodes-of .ensures) (sizes (a .model .now) (c .before .before .before .before .pre .0) .1, sized (a .instance .now) (c .before .before .before .before .pre .1) .nodes-length)
+    rw (c .before .types-of .ensures, c .nodes-of .ensures) (sizes (a .model .now) (layout (a .model .now) (c .before .before .before .before .pre .0)) .1, sized (a .instance .now) (c .before .before .before .before .pre .1) .nodes-length)
 
 returns : tie.Need-returns
 returns c = let a = c .before .before .before .before .before .args in

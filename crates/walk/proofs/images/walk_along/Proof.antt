@@ -1,6 +1,8 @@
 use native.Mathlib.Omega.{arith}
+use Rattle.form.proofs.Parts.{layout}
 use Rattle.nodes.proofs.Sizes.{sized}
-use Rattle.walk.proofs.Frames.{sizes, written-is, openings-is}
+use Rattle.parts.proofs.Sizes.{sizes}
+use Rattle.walk.proofs.Frames.{written-is, openings-is}
 use borrow.Author.Needs.{needs}
 use Rattle.walk.proofs.images.walk_along.Statement.{statement}
 use Rattle.walk.proofs.images.walk_along.Tie as tie
@@ -9,7 +11,7 @@ walk-from-requires : tie.Need-walk-from-requires
 walk-from-requires c κs = let a = c .before .before .before .before .before .before .before .before .before .before .before .before .args in
     let p = c .before .before .before .before .before .before .before .before .before .before .before .before .pre in
     rw (c .before .before .before .before .before .before .before .node-type .ensures .0, c .before .before .before .before .before .before .types-of .ensures, c .before .before .before .before .before .properties-of .ensures, c .before .before .before .before .segments-of .ensures, c .before .before .before .names-of .ensures, c .before .before .before .before .before .before .before .before .nodes-of .ensures, c .before .before .slots-of .ensures, c .before .items-of .ensures, written-is (a .model .now) (a .instance .now) (a .first) (a .count) (a .v), openings-is (a .model .now) (a .instance .now) (a .first) (a .count) (a .v))
-    ((sizes (a .model .now) (p .0 .0) .1, sized (a .instance .now) (p .0 .1) .nodes-length, p .0 .2), (omega (arith, p .1 .0), p .1 .1))
+    ((sizes (a .model .now) (layout (a .model .now) (p .0 .0)) .1, sized (a .instance .now) (p .0 .1) .nodes-length, p .0 .2), (omega (arith, p .1 .0), p .1 .1))
 
 returns : tie.Need-returns
 returns c = let a = c .before .before .before .before .before .before .before .before .before .before .before .before .before .before .before .args in
