@@ -1,14 +1,11 @@
-// Steps along properties, and keys.
+// Steps along properties.
 ghost use mathlib.Core.Path.{_≡_};
 ghost use mathlib.Core.List.{[]};
 ghost use Prim.Native.Nat.{_≤_};
 ghost use lib.ListN.{length};
 ghost use Rattle.csdl.specs.Model.{modelOf};
 ghost use Rattle.csdl.specs.Find as find;
-use crate::bases::is_at;
 use crate::kinds::of_kind;
-use records::keys::key_count;
-use records::keys::key_owner;
 use records::properties::property_contains;
 use records::properties::property_navigation;
 use records::properties::property_type_ref;
@@ -34,20 +31,4 @@ pub fn integral(types: &[u8], properties: &[u8], p: u16) -> bool
     ensures { λ r. ⌜ r ≡ find.integral (modelOf [] (now (types .entry)) (now (properties .entry)) [] [] [] [] [] []) p ⌝ }
 {
     complex_step(types, properties, p) | contain_step(properties, p)
-}
-
-// Whether t or one of its ancestors has a key.
-pub fn has_key(types: &[u8], keys: &[u8], t: u16) -> bool
-    requires { ⌜ (length (now types) ≤ 384) × (length (now keys) ≤ 768) ⌝ }
-    ensures { λ r. ⌜ r ≡ find.hasKey (modelOf [] (now (types .entry)) [] (now (keys .entry)) [] [] [] [] []) t ⌝ }
-{
-    let n = key_count(keys);
-    let mut k: u16 = 0;
-    while k < n {
-        if is_at(types, key_owner(keys, k), t) {
-            return true;
-        }
-        k += 1;
-    }
-    false
 }

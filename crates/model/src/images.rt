@@ -11,6 +11,7 @@ ghost use Rattle.resolution.specs.Written.{Resolvable};
 ghost use Rattle.model.specs.Named.{nameAt};
 use crate::naming::name_at;
 use csdl::ModelAnswer;
+use order::first_broken;
 use parts::model::bindings_of;
 use parts::model::children_of;
 use parts::model::constraints_of;
@@ -22,7 +23,6 @@ use parts::model::segments_of;
 use parts::model::types_of;
 use records::fields::Name;
 use resolution::write_resolution;
-use scan::stages::first_broken;
 
 // Rules 3 to 19.
 pub fn check_parts(image: &[u8]) -> ModelAnswer

@@ -10,14 +10,14 @@ ghost use Rattle.csdl.specs.Paths.{keyName, key15b, key15c, key15d, key15e, key
 ghost use Rattle.paths.specs.Keys.{againNamed};
 use crate::steps::StepTest;
 use crate::steps::step_or_end;
-use lookup::bases::ancestor;
+use lines::bases::ancestors_of;
+use lines::keys::key_in;
 use lookup::kinds::of_kind;
 use lookup::names::find;
 use lookup::texts::key_alias_text;
 use lookup::texts::segment_text;
 use packed::same_bytes;
 use records::keys::key_alias;
-use records::keys::key_count;
 use records::keys::key_owner;
 use records::keys::key_path;
 use trail::codes::has_cast;
@@ -28,16 +28,7 @@ pub fn key_above(types: &[u8], keys: &[u8], k: u16) -> bool
     requires { ⌜ (length (now types) ≤ 384) × (length (now keys) ≤ 768) ⌝ }
     ensures { λ r. ⌜ r ≡ key15b (modelOf [] (now (types .entry)) [] (now (keys .entry)) [] [] [] [] []) k ⌝ }
 {
-    let n = key_count(keys);
-    let owner = key_owner(keys, k);
-    let mut j: u16 = 0;
-    while j < n {
-        if ancestor(types, key_owner(keys, j), owner) {
-            return true;
-        }
-        j += 1;
-    }
-    false
+    key_in(keys, ancestors_of(types, key_owner(keys, k)))
 }
 
 // Whether the path has a cast, or a step that it may not have (15c to 15e).

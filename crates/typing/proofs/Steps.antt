@@ -10,11 +10,11 @@ use Rattle.csdl.specs.Climb.{reaches}
 use Rattle.csdl.specs.Model.{Model}
 use Rattle.csdl.specs.Find.{isAt, ancestor}
 use Rattle.csdl.specs.Properties.{requiredStep, type12, property11b}
-use Rattle.typing.specs.Sets.{member, Holds, setOf, stepOf}
+use Rattle.lines.specs.Sets.{member, Holds, setOf, stepOf}
 use Rattle.typing.specs.Cycles.{cyclic}
 use Rattle.typing.specs.Steps.{leads, clash}
 use Rattle.typing.proofs.Gather.{any-same, any-none}
-use Rattle.typing.proofs.SetLaws.{member-none, member-set, set-same}
+use Rattle.lines.proofs.SetLaws.{member-none, member-set, set-same}
 use Rattle.typing.proofs.Rounds.{rounds-same}
 
 -- The line has t and its ancestors.

@@ -5,9 +5,9 @@ ghost use Prim.Native.Nat.{_≤_, _<_};
 ghost use lib.ListN.{length};
 ghost use Rattle.csdl.specs.Search.{anyFrom};
 ghost use Rattle.csdl.specs.Climb.{reaches};
-ghost use Rattle.typing.specs.Sets.{member, Holds, setOf, stepOf};
-use crate::sets::in_set;
-use crate::sets::mark_of;
+ghost use Rattle.lines.specs.Sets.{member, Holds, setOf, stepOf};
+use lines::sets::in_set;
+use lines::sets::mark_of;
 
 // The set `all`, and row c where c is in `row`.
 fn with_row(rows: &[u64], row: u64, all: u64, c: u16) -> u64

@@ -1,8 +1,6 @@
 // Rules 8 to 12: what a type and a property may be. Each function takes the tables that it needs.
-pub mod bases;
 pub mod cycles;
 pub mod properties;
 pub mod redeclared;
 pub mod required;
-pub mod sets;
 pub mod types;

@@ -4,7 +4,7 @@ use mathlib.Core.Bool.{_&&_, _||_}
 use native.Mathlib.Omega.{arith}
 use lib.ListN.{length}
 use Rattle.csdl.specs.Search.{anyFrom}
-use Rattle.typing.specs.Sets.{member, Holds, stepOf}
+use Rattle.lines.specs.Sets.{member, Holds, stepOf}
 use Rattle.typing.proofs.Gather.{gather-start, gather-next}
 use borrow.Author.Needs.{needs}
 use Rattle.typing.proofs.cycles.grown.Statement.{statement}

@@ -3,8 +3,8 @@ use mathlib.Core.Path.{_≡_, _∙_}
 use native.Mathlib.Omega.{arith}
 use lib.ListN.{length}
 use Rattle.csdl.specs.Climb.{reaches}
-use Rattle.typing.specs.Sets.{setOf, stepOf}
-use Rattle.typing.proofs.SetLaws.{set-start, set-next}
+use Rattle.lines.specs.Sets.{setOf, stepOf}
+use Rattle.lines.proofs.SetLaws.{set-start, set-next}
 use borrow.Author.Needs.{needs}
 use Rattle.typing.proofs.cycles.on_cycles.Statement.{statement}
 use Rattle.typing.proofs.cycles.on_cycles.Tie as tie

@@ -4,7 +4,7 @@ use mathlib.Core.Bool.{false}
 use native.Mathlib.Omega.{arith}
 use lib.ListN.{length, getD}
 use Rattle.csdl.specs.Climb.{rounds}
-use Rattle.typing.specs.Sets.{member, Holds, stepOf}
+use Rattle.lines.specs.Sets.{member, Holds, stepOf}
 use Rattle.typing.proofs.Rounds.{round-none, round-of, round-end, round-still}
 use borrow.Author.Needs.{needs}
 use Rattle.typing.proofs.cycles.reached_from.Statement.{statement}

@@ -1,8 +1,8 @@
 use mathlib.Core.Path.{_≡_, sym, _∙_}
 use mathlib.Core.Bool.{true, false, or-false}
 use lib.ListN.{getD}
-use Rattle.typing.specs.Sets.{member}
-use Rattle.typing.proofs.SetLaws.{member-or}
+use Rattle.lines.specs.Sets.{member}
+use Rattle.lines.proofs.SetLaws.{member-or}
 use borrow.Author.Needs.{needs}
 use Rattle.typing.proofs.cycles.with_row.Statement.{statement}
 use Rattle.typing.proofs.cycles.with_row.Tie as tie

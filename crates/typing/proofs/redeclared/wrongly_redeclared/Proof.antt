@@ -5,7 +5,7 @@ use Rattle.packed.proofs.Laws.{field-lt}
 use Rattle.csdl.specs.Search.{anyFrom}
 use Rattle.csdl.specs.Model.{modelOf}
 use Rattle.csdl.specs.Find.{ancestor}
-use Rattle.typing.specs.Sets.{member}
+use Rattle.lines.specs.Sets.{member}
 use Rattle.typing.specs.Steps.{clash}
 use Rattle.typing.proofs.Steps.{clash-any, clash-none}
 use borrow.Author.Needs.{needs}

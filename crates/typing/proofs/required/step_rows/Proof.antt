@@ -8,7 +8,7 @@ use lib.ListN.{length, getD, set, length-set}
 use lib.Seq.{getD-set-same, getD-set-other}
 use Rattle.csdl.specs.Model.{modelOf}
 use Rattle.csdl.specs.Properties as rules
-use Rattle.typing.specs.Sets.{member, Holds}
+use Rattle.lines.specs.Sets.{member, Holds}
 use Rattle.typing.proofs.required.step_rows.Statement.{statement}
 use Rattle.typing.proofs.required.step_rows.Tie as tie
 

@@ -9,10 +9,10 @@ use Rattle.packed.proofs.Laws.{field-lt}
 use Rattle.csdl.specs.Search.{anyFrom}
 use Rattle.csdl.specs.Model.{modelOf}
 use Rattle.csdl.specs.Find.{ancestor, isAt}
-use Rattle.typing.specs.Sets.{member, Holds}
+use Rattle.lines.specs.Sets.{member, Holds}
 use Rattle.typing.specs.Steps.{leads}
 use Rattle.typing.proofs.Gather.{gather-start, gather-next}
-use Rattle.typing.proofs.SetLaws.{member-none}
+use Rattle.lines.proofs.SetLaws.{member-none}
 use Rattle.typing.proofs.Steps.{steps-lead}
 use Rattle.typing.proofs.required.steps_from.Statement.{statement}
 use Rattle.typing.proofs.required.steps_from.Tie as tie

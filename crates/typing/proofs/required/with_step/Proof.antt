@@ -5,7 +5,7 @@ use borrow.Author.Tests.{not-true, not-false}
 use Rattle.csdl.specs.Tables.{propertyOwner}
 use Rattle.csdl.specs.Model.{modelOf}
 use Rattle.csdl.specs.Properties as rules
-use Rattle.typing.specs.Sets.{member}
+use Rattle.lines.specs.Sets.{member}
 use Rattle.typing.specs.Steps.{leads}
 use borrow.Author.Needs.{needs}
 use Rattle.typing.proofs.required.with_step.Statement.{statement}
