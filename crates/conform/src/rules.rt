@@ -27,6 +27,7 @@ use nodes::fields::node_type;
 use nodes::fields::slot_count;
 use nodes::fields::slot_property;
 use nodes::fields::slot_state;
+use records::fields::less_one;
 use records::properties::property_collection;
 use records::properties::property_count;
 use records::properties::property_nullable;
@@ -193,13 +194,6 @@ fn item_25_of(types: &[u8], properties: &[u8], nodes: &[u8], items: &[u8], p: u1
         return !carries_node(types, nodes, items, u, k);
     }
     item_ref(items, k) != u
-}
-
-// The number before, or 0.
-pub fn less_one(x: u16) -> u16
-    ensures { λ r. ⌜ r ≡ x - 1 ⌝ }
-{
-    if x == 0 { 0 } else { x - 1 }
 }
 
 // The property of the slot that has item k. `holders` has for each item the slot whose run has it.

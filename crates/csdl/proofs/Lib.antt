@@ -1,6 +1,7 @@
 pub mod Everything
 pub mod Examples
 pub mod Logic
+pub mod Loops
 pub mod Settle
 pub mod Climbing
 pub mod Reaching

@@ -1,4 +1,3 @@
-pub mod Any
 pub mod Chain
 pub mod Dots
 pub mod Frame

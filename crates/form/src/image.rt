@@ -93,10 +93,3 @@ pub fn bad_image(image: &[u8]) -> bool
         | bad_counts(image)
         | (image.len() != (image_end(image) as usize))
 }
-
-// Rule 2.
-pub fn short_buffer(image: &[u8], buffer: &[u8]) -> bool
-    ensures { λ r. ⌜ r ≡ images.buffer2 (now (image .entry)) (now (buffer .entry)) ⌝ }
-{
-    buffer.len() < 2 * (header(image, 8) as usize)
-}

@@ -8,13 +8,12 @@ ghost use lib.ListN.{length, getD};
 ghost use Rattle.csdl.specs.Search as search;
 ghost use Rattle.csdl.specs.Climb as climb;
 ghost use Rattle.csdl.specs.Model.{modelOf};
-ghost use Rattle.csdl.specs.Instance.{instanceOf, nodeCount};
+ghost use Rattle.csdl.specs.Instance.{instanceOf, nodeCount, itemCount};
 ghost use Rattle.csdl.specs.Conforms.{slotOfItem, nodeOfSlot, nodeOfItem, itemProperty, node26};
 ghost use Rattle.conform.specs.Tables.{Holding, toTwo};
 ghost use Rattle.instance.specs.Graph as graph;
 use conform::rules::is_null;
 use conform::rules::item_property;
-use conform::rules::less_one;
 use conform::rules::mark;
 use conform::runs::add_run;
 use conform::runs::nodes_of_slots;
@@ -24,6 +23,7 @@ use lookup::steps::integral;
 use nodes::fields::item_count;
 use nodes::fields::item_handle;
 use nodes::fields::node_count;
+use records::fields::less_one;
 
 // Entry k of an array, or 0 past the end.
 fn read_at(array: &[u16], k: u16) -> u16
@@ -70,13 +70,14 @@ fn held_nodes(
     slots: &[u8],
     items: &[u8],
 ) -> [u16; 2048]
-    requires { ⌜ (length (now types) ≤ 384) × (length (now nodes) ≤ 1024) × (length (now slots) ≤ 5120) ⌝ }
-    ensures { λ r. ⌜ Holding (λ k. graph.heldBy (modelOf [] (now (types .entry)) (now (properties .entry)) [] [] [] [] [] []) (instanceOf (now (nodes .entry)) (now (slots .entry)) (now (items .entry))) k) 2048 r ⌝ }
+    requires { ⌜ (length (now types) ≤ 384) × (length (now nodes) ≤ 1024) × (length (now slots) ≤ 5120) × (length (now items) ≤ 8192) ⌝ }
+    ensures { λ r. ⌜ ((k : ℕ) → k < itemCount (now (items .entry)) → getD r k 0 ≡ graph.heldBy (modelOf [] (now (types .entry)) (now (properties .entry)) [] [] [] [] [] []) (instanceOf (now (nodes .entry)) (now (slots .entry)) (now (items .entry))) k) ⌝ }
 {
     let owners = slots_of_items(slots);
     let mut array = [0u16; 2048];
+    let n = item_count(items);
     let mut k: u16 = 0;
-    while k < 2048 {
+    while k < n {
         array[k as usize] = held_by(types, properties, nodes, slots, items, &owners, k);
         k += 1;
     }

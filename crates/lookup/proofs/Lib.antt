@@ -1,5 +1,4 @@
 pub mod Climb
-pub mod Loops
 pub mod Near
 pub mod Chain
 pub mod Looking

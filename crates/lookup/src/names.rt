@@ -24,21 +24,24 @@ fn named(properties: &[u8], names: &[u8], name: &[u8], p: u16) -> bool
     same_bytes(property_text(properties, names, p), name)
 }
 
-// How many of `left` types are left where the climb from t meets u: 0 where it does not.
-fn left_at(types: &[u8], u: u16, t: u16, left: u16) -> u16
-    ensures { λ r. ⌜ r ≡ leftAt (only u) (λ v. typeBase (now (types .entry)) v) left t ⌝ }
+// How many of `all` types are left where the climb from t meets u: 0 where it does not.
+fn left_at(types: &[u8], u: u16, t: u16, all: u16) -> u16
+    ensures { λ r. ⌜ r ≡ leftAt (only u) (λ v. typeBase (now (types .entry)) v) all t ⌝ }
 {
-    if left == 0 {
-        return 0;
+    let mut at = t;
+    let mut left = all;
+    while left > 0 {
+        if u == at {
+            return left;
+        }
+        let base = type_base(types, at);
+        if base == 0 {
+            return 0;
+        }
+        at = base - 1;
+        left -= 1;
     }
-    if u == t {
-        return left;
-    }
-    let base = type_base(types, t);
-    if base == 0 {
-        return 0;
-    }
-    left_at(types, u, base - 1, left - 1)
+    0
 }
 
 // What the name means at t: 0 for none, else a property's number and 1. Of the properties that have the name, the one whose owner the climb

@@ -10,6 +10,7 @@ ghost use Rattle.paths.specs.Steps.{stepTest, anyCode, stepOrEnd};
 use lookup::kinds::of_kind;
 use lookup::steps::complex_step;
 use lookup::steps::contain_step;
+use records::fields::less_one;
 use records::properties::property_collection;
 use records::properties::property_contains;
 use records::properties::property_navigation;
@@ -29,12 +30,6 @@ pub enum StepTest {
     Crosses,
     NoTargetStep,
     NoContainment,
-}
-
-pub fn less_one(x: u16) -> u16
-    ensures { λ r. ⌜ r ≡ x - 1 ⌝ }
-{
-    if x == 0 { 0 } else { x - 1 }
 }
 
 fn less_64(x: u16) -> u16

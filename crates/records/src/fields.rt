@@ -1,6 +1,6 @@
 // Names and paths as fields of a record, and the bytes of a name.
 ghost use mathlib.Core.Path.{_≡_};
-ghost use Prim.Native.Nat.{_+_, _<_, _≤_};
+ghost use Prim.Native.Nat.{_+_, _-_, _<_, _≤_};
 ghost use Rattle.packed.specs.Field.{fieldOf};
 ghost use Rattle.packed.specs.Bytes.{part};
 use packed::field;
@@ -49,4 +49,11 @@ pub fn text_of(names: &[u8], n: Name) -> &[u8]
     let start = n.start;
     let size = n.size;
     part_of(names, start, size)
+}
+
+// The number of an answer that is 0 for none, else a number and 1; 0 also for none.
+pub fn less_one(x: u16) -> u16
+    ensures { λ r. ⌜ r ≡ x - 1 ⌝ }
+{
+    if x == 0 { 0 } else { x - 1 }
 }

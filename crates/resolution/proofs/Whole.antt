@@ -2,7 +2,7 @@
 use Prim.Native.Nat.{ℕ, zero, suc, _+_, _-_, _≤_, _<_}
 use mathlib.Core.Path.{_≡_, refl, sym, ap, fun-ext, _∙_}
 use mathlib.Core.List.{List, []}
-use mathlib.Core.Bool.{Bool, true, false, not, cond, _||_}
+use mathlib.Core.Bool.{Bool, true, false, not, cond, _||_, false≢true}
 use native.Mathlib.Omega.{arith}
 use lib.Dec.{eqb, ltb}
 use lib.ListN.{getD}
@@ -25,6 +25,7 @@ use Rattle.trail.specs.Trail.{TrailOf, prefix, codeAt, stepNo}
 use Rattle.trail.proofs.Reading.{find-le}
 use Rattle.segments.proofs.Frame.{holders-frame, path-frame, start-frame}
 use Rattle.segments.proofs.Trails.{first-is, count-is, whole}
+use Rattle.segments.proofs.Least.{empty-run}
 use Rattle.resolution.specs.Written.{Resolvable, RunWritten, PathStep}
 use Rattle.resolution.proofs.Progress.{path-step}
 
@@ -213,3 +214,12 @@ module _ (ty pr ke co ch bi sg nm : List ℕ) (w : Kind) (r start first count ta
 
   pub run-step : (before out : List ℕ) → RunWritten codes first count before out → PathStep (modelOf [] ty pr ke co ch bi sg nm) w r before out
   run-step before out s = path-step (modelOf [] ty pr ke co ch bi sg nm) w r taken end codes before out fit there its-trail (rw (its-first, its-count) at s)
+
+-- A path of no segments, of which nothing is to be written.
+pub nothing-written : (m : Model) (w : Kind) (r : ℕ) (out : List ℕ) → pathOf m w r .count ≡ 0 → PathStep m w r out out
+nothing-written m w r out h = record {
+  same-length = refl;
+  written = λ g i. absurd (false≢true (sym (empty-run (pathOf m w r) g h) ∙ i));
+  others = λ g code i c. c;
+  rest = λ j i. refl;
+}

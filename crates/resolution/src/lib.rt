@@ -53,6 +53,9 @@ fn write_path(
     let run = path_of(properties, keys, constraints, bindings, kind, r);
     let first = run.first;
     let count = run.count;
+    if count == 0 {
+        return;
+    }
     let start = start_of(properties, keys, constraints, children, bindings, kind, r);
     let t = trail_of(
         types,

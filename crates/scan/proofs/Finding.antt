@@ -5,7 +5,7 @@ use Prim.Native.Nat.{ℕ, zero, suc, _+_, _≤_, _<_}
 use native.Mathlib.Omega.{arith}
 use Rattle.csdl.specs.Search.{firstFrom}
 use Rattle.csdl.proofs.Logic.{first-found}
-use Rattle.lookup.proofs.Loops.{First, first-start, first-hit, first-next, first-end}
+use Rattle.csdl.proofs.Loops.{First, first-start, first-hit, first-next, first-end}
 use Rattle.scan.specs.Rows.{shifted}
 
 pub shifted-none : (a found : ℕ) → found ≡ 0 → 0 ≡ shifted a found

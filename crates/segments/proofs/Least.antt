@@ -1,14 +1,15 @@
 -- The lowest number that passes one of several tests, one test after another.
 use Prim.Native.Nat.{ℕ, suc, _+_, _≤_, _<_}
 use mathlib.Core.Path.{_≡_, refl, sym, subst, _∙_}
-use mathlib.Core.Bool.{Bool, true, false, cond, _||_}
+use mathlib.Core.Bool.{Bool, true, false, cond, _&&_, _||_}
 use native.Mathlib.Omega.{arith}
-use lib.Dec.{ltb}
-use borrow.Author.Tests.{ltb-true, ltb-false}
+use lib.Dec.{ltb, leb}
+use borrow.Author.Tests.{ltb-true, ltb-false, leb-true, le-ltb}
 use Rattle.csdl.specs.Search.{anyFrom, firstFrom}
 use Rattle.csdl.proofs.Logic.{any-of, none-any, first-is, none-first}
-use Rattle.csdl.specs.Model.{Model}
-use Rattle.csdl.specs.Path.{Kind, holders}
+use Rattle.csdl.specs.Tables.{Run}
+use Rattle.csdl.specs.Model.{Model, inRun}
+use Rattle.csdl.specs.Path.{Kind, holders, pathOf}
 use Rattle.csdl.specs.Path.Kind.{partner, key, dependent, principal, binding, target}
 use Rattle.csdl.specs.Paths.{stuckIn, stuck, segment14}
 use Rattle.segments.specs.Kinds.{kindOf}
@@ -48,6 +49,22 @@ least-any f top n low l = record {
   most = l .most;
   below = λ g h. none-any (λ j. f j g) 0 n (λ j a b. l .below g h j (omega arith));
   hit = λ h. let w = l .hit h in any-of (λ j. f j low) 0 n (w .0) (omega arith) (omega (arith, w .1)) (w .2);
+}
+
+-- A path of no segments is stuck nowhere.
+pub empty-run : (run : Run) (g : ℕ) → run .count ≡ 0 → inRun run g ≡ false
+empty-run run g h = go (leb (run .first) g) refl
+  where
+    go : (b : Bool) → leb (run .first) g ≡ b → (b && ltb g (run .first + run .count)) ≡ false
+    go true e = le-ltb g (run .first + run .count) (omega (arith, leb-true (run .first) g e, h))
+    go false e = refl
+
+pub empty-path : (m : Model) (w : Kind) (r top : ℕ) → pathOf m w r .count ≡ 0 → Lowest (λ g. stuckIn m w g r) top top
+unfolding stuckIn
+empty-path m w r top h = record {
+  most = omega arith;
+  below = λ g l. rw (empty-run (pathOf m w r) g h);
+  hit = λ l. absurd (omega arith);
 }
 
 -- The search from 0 finds the lowest number.

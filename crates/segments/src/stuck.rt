@@ -37,6 +37,9 @@ fn stuck_in(
     let run = path_of(properties, keys, constraints, bindings, kind, r);
     let first = run.first;
     let count = run.count;
+    if count == 0 {
+        return top;
+    }
     let start = start_of(properties, keys, constraints, children, bindings, kind, r);
     let t = trail_of(
         types,

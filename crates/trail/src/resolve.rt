@@ -15,6 +15,7 @@ use crate::wide::find_at;
 use crate::wide::is_structured;
 use crate::wide::stands_at;
 use lookup::texts::segment_text;
+use records::fields::less_one;
 use records::properties::property_type_ref;
 use records::segments::segment_cast;
 use records::segments::segment_type;
@@ -43,12 +44,6 @@ fn cast_resolves(types: &[u8], t: u32, c: u32) -> bool
         return stands_at(types, t, c);
     }
     false
-}
-
-fn less_one(x: u16) -> u16
-    ensures { λ r. ⌜ r ≡ x - 1 ⌝ }
-{
-    if x == 0 { 0 } else { x - 1 }
 }
 
 // Segment g resolved at t.

@@ -76,6 +76,19 @@ pub fn walk(
     }
 }
 
+/// The three calls with null pointers for slices of no bytes.
+pub fn nothing_lent() -> [u64; 3] {
+    use std::ptr::{null, null_mut};
+    // A pointer may be null where its length is 0.
+    unsafe {
+        [
+            tour_check_model(null(), 0, null_mut(), 0),
+            tour_check_instance(null(), 0, null(), 0),
+            tour_walk(null(), 0, null(), 0, 0, 0, 0, null_mut(), 0),
+        ]
+    }
+}
+
 /// Bytes before and after the lent buffer that must stay.
 const GUARD: usize = 32;
 const GUARD_BYTE: u8 = 0x5a;

@@ -3,7 +3,7 @@ use mathlib.Core.List.{[]}
 use native.Mathlib.Omega.{arith}
 use Rattle.csdl.specs.Model.{modelOf}
 use Rattle.csdl.specs.Paths.{binding19d}
-use Rattle.lookup.proofs.Loops.{Any, any-start, any-hit, any-next, any-end}
+use Rattle.csdl.proofs.Loops.{Any, any-start, any-hit, any-next, any-end}
 use Rattle.bindings.specs.Bindings.{againBound}
 use borrow.Author.Needs.{needs}
 use Rattle.bindings.proofs.bindings.binding_again.Statement.{statement}

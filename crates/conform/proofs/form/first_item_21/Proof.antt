@@ -2,7 +2,7 @@ use Prim.Native.Nat.{_-_, _≤_}
 use mathlib.Core.List.{[]}
 use Rattle.csdl.specs.Instance.{instanceOf}
 use Rattle.csdl.specs.Conforms.{item21c}
-use Rattle.lookup.proofs.Loops.{First, first}
+use Rattle.csdl.proofs.Loops.{First, first}
 use borrow.Author.Needs.{needs}
 use Rattle.conform.proofs.form.first_item_21.Statement.{statement}
 use Rattle.conform.proofs.form.first_item_21.Tie as tie

@@ -4,7 +4,7 @@ use lib.ListN.{length}
 use Rattle.csdl.specs.Model.{modelOf}
 use Rattle.csdl.specs.Instance.{instanceOf}
 use Rattle.csdl.specs.Conforms.{slot21b}
-use Rattle.lookup.proofs.Loops.{First, first}
+use Rattle.csdl.proofs.Loops.{First, first}
 use borrow.Author.Needs.{needs}
 use Rattle.conform.proofs.form.first_slot_21.Statement.{statement}
 use Rattle.conform.proofs.form.first_slot_21.Tie as tie

@@ -3,7 +3,7 @@ use mathlib.Core.List.{[]}
 use lib.ListN.{length}
 use Rattle.csdl.specs.Model.{modelOf}
 use Rattle.lookup.specs.Index.{Indexed}
-use Rattle.lookup.proofs.Loops.{Any, any}
+use Rattle.csdl.proofs.Loops.{Any, any}
 use Rattle.conform.specs.Parts.{unlikeAt}
 use borrow.Author.Needs.{needs}
 use Rattle.conform.proofs.rules.any_unlike.Statement.{statement}

@@ -4,7 +4,7 @@ use lib.ListN.{length}
 use Rattle.csdl.specs.Model.{modelOf}
 use Rattle.csdl.specs.Instance.{instanceOf}
 use Rattle.csdl.specs.Conforms.{node22}
-use Rattle.lookup.proofs.Loops.{First, first}
+use Rattle.csdl.proofs.Loops.{First, first}
 use borrow.Author.Needs.{needs}
 use Rattle.conform.proofs.rules.first_22.Statement.{statement}
 use Rattle.conform.proofs.rules.first_22.Tie as tie

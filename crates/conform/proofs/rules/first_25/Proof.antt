@@ -4,7 +4,7 @@ use lib.ListN.{length}
 use Rattle.csdl.specs.Model.{modelOf}
 use Rattle.csdl.specs.Instance.{instanceOf}
 use Rattle.csdl.specs.Conforms.{item25}
-use Rattle.lookup.proofs.Loops.{First, first}
+use Rattle.csdl.proofs.Loops.{First, first}
 use borrow.Author.Needs.{needs}
 use Rattle.conform.proofs.rules.first_25.Statement.{statement}
 use Rattle.conform.proofs.rules.first_25.Tie as tie

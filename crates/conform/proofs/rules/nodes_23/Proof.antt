@@ -5,7 +5,7 @@ use Rattle.csdl.specs.Model.{modelOf}
 use Rattle.csdl.specs.Instance.{instanceOf}
 use Rattle.csdl.specs.Conforms.{node23}
 use Rattle.lookup.specs.Index.{Indexed}
-use Rattle.lookup.proofs.Loops.{First, first}
+use Rattle.csdl.proofs.Loops.{First, first}
 use borrow.Author.Needs.{needs}
 use Rattle.conform.proofs.rules.nodes_23.Statement.{statement}
 use Rattle.conform.proofs.rules.nodes_23.Tie as tie

@@ -4,7 +4,7 @@ use mathlib.Core.List.{[]}
 use Rattle.csdl.specs.Model.{modelOf}
 use Rattle.csdl.specs.Form.{child7b}
 use Rattle.form.specs.Fields.{sameChild}
-use Rattle.form.proofs.Any.{Any, any}
+use Rattle.csdl.proofs.Loops.{Any, any}
 use Rattle.form.proofs.repeats.child_7.Statement.{statement}
 use Rattle.form.proofs.repeats.child_7.Tie as tie
 

@@ -3,7 +3,7 @@ use Prim.Native.Nat.{_-_}
 use mathlib.Core.List.{[]}
 use Rattle.csdl.specs.Model.{modelOf}
 use Rattle.csdl.specs.Form.{sharesName}
-use Rattle.form.proofs.Any.{Any, any}
+use Rattle.csdl.proofs.Loops.{Any, any}
 use Rattle.form.proofs.schemas.schema_6c.Statement.{statement}
 use Rattle.form.proofs.schemas.schema_6c.Tie as tie
 

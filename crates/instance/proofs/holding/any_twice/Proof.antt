@@ -4,7 +4,7 @@ use mathlib.Core.Path.{refl}
 use lib.ListN.{getD}
 use lib.Dec.{ltb}
 use borrow.Author.Tests.{lt-ltb, le-ltb}
-use Rattle.lookup.proofs.Loops.{Any, any-start, any-hit, any-next, any-end}
+use Rattle.csdl.proofs.Loops.{Any, any-start, any-hit, any-next, any-end}
 use Rattle.instance.proofs.holding.any_twice.Statement.{statement}
 use Rattle.instance.proofs.holding.any_twice.Tie as tie
 

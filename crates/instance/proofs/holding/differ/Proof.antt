@@ -5,7 +5,7 @@ use lib.ListN.{getD}
 use lib.Dec.{eqb}
 use mathlib.Core.Bool.{not}
 use borrow.Author.Tests.{eq-eqb, ne-eqb}
-use Rattle.lookup.proofs.Loops.{Any, any-start, any-hit, any-next, any-end}
+use Rattle.csdl.proofs.Loops.{Any, any-start, any-hit, any-next, any-end}
 use Rattle.instance.proofs.holding.differ.Statement.{statement}
 use Rattle.instance.proofs.holding.differ.Tie as tie
 

@@ -31,7 +31,7 @@ returns c =
     let t = c .before .before .before .before .before .held-nodes .ensures in
     let e = c .first-within .ensures .0 in (
       rw (c .before .node-count .ensures .0, c .before .before .item-count .ensures .0) at e
-          ∙ first-26-same m i _ _ (λ k h. f .at k (omega (arith, c .before .before .before .before .before .before .before .before .before .before .before .before .pre))) (λ k h. t .at k (omega (arith, c .before .before .before .before .before .before .before .before .before .before .before .before .pre))),
+          ∙ first-26-same m i _ _ (λ k h. f .at k (omega (arith, c .before .before .before .before .before .before .before .before .before .before .before .before .pre))) (λ k h. t k h),
       search needs,
     )
 

@@ -1,7 +1,7 @@
 use borrow.Author.Needs.{needs}
 use Prim.Native.Nat.{_-_, _≤_}
 use Rattle.instance.specs.Graph.{node26In}
-use Rattle.lookup.proofs.Loops.{First, first}
+use Rattle.csdl.proofs.Loops.{First, first}
 use Rattle.instance.proofs.holding.first_within.Statement.{statement}
 use Rattle.instance.proofs.holding.first_within.Tie as tie
 

@@ -1,6 +1,6 @@
 use Prim.Native.Nat.{_-_, _≤_}
 use Rattle.csdl.specs.Tables.{keyOwner}
-use Rattle.lookup.proofs.Loops.{Any, any-start, any-hit, any-next, any-end}
+use Rattle.csdl.proofs.Loops.{Any, any-start, any-hit, any-next, any-end}
 use native.Mathlib.Omega.{arith}
 use Rattle.lines.specs.Sets.{member}
 use borrow.Author.Needs.{needs}

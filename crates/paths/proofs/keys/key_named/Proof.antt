@@ -3,7 +3,7 @@ use mathlib.Core.List.{[]}
 use native.Mathlib.Omega.{arith}
 use Rattle.csdl.specs.Model.{modelOf}
 use Rattle.csdl.specs.Paths.{key15g}
-use Rattle.lookup.proofs.Loops.{Any, any-start, any-hit, any-next, any-end}
+use Rattle.csdl.proofs.Loops.{Any, any-start, any-hit, any-next, any-end}
 use Rattle.paths.specs.Keys.{againNamed}
 use borrow.Author.Needs.{needs}
 use Rattle.paths.proofs.keys.key_named.Statement.{statement}

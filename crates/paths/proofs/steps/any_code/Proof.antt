@@ -4,7 +4,7 @@ use native.Mathlib.Omega.{arith}
 use lib.ListN.{getD}
 use Rattle.csdl.specs.Model.{modelOf}
 use Rattle.trail.specs.Trail.{isCode}
-use Rattle.lookup.proofs.Loops.{Any, any-start, any-hit, any-next, any-end}
+use Rattle.csdl.proofs.Loops.{Any, any-start, any-hit, any-next, any-end}
 use Rattle.paths.specs.Steps.{stepTest}
 use borrow.Author.Needs.{needs}
 use Rattle.paths.proofs.steps.any_code.Statement.{statement}

@@ -1,6 +1,6 @@
 use Prim.Native.Nat.{_-_}
 use Rattle.csdl.specs.Model.{modelOf}
-use Rattle.lookup.proofs.Loops.{First}
+use Rattle.csdl.proofs.Loops.{First}
 use Rattle.scan.specs.Rows.{rowTest}
 use Rattle.scan.proofs.Finding.{row}
 use borrow.Author.Needs.{needs}

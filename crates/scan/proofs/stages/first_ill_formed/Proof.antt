@@ -1,7 +1,7 @@
 use Prim.Native.Nat.{_-_, _≤_}
 use Rattle.csdl.specs.Model.{modelOf}
 use Rattle.csdl.specs.Verdict.{placed}
-use Rattle.lookup.proofs.Loops.{First, first-start, first-hit, first-next, first-end}
+use Rattle.csdl.proofs.Loops.{First, first-start, first-hit, first-next, first-end}
 use Rattle.scan.specs.Stages.{formRule, lowestPlace}
 use borrow.Author.Needs.{needs}
 use Rattle.scan.proofs.stages.first_ill_formed.Statement.{statement}

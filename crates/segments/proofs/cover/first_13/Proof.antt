@@ -7,7 +7,7 @@ use borrow.Author.Needs.{needs}
 use Rattle.csdl.specs.Tables.{segmentCount}
 use Rattle.csdl.specs.Model.{modelOf}
 use Rattle.csdl.specs.Paths.{segment13}
-use Rattle.lookup.proofs.Loops.{First, first-start, first-hit, first-next, first-end}
+use Rattle.csdl.proofs.Loops.{First, first-start, first-hit, first-next, first-end}
 use Rattle.segments.proofs.Covering.{covered-once, not-covered-once}
 use Rattle.segments.proofs.cover.first_13.Statement.{statement}
 use Rattle.segments.proofs.cover.first_13.Tie as tie

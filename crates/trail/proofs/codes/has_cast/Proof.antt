@@ -4,7 +4,7 @@ use lib.ListN.{length, getD}
 use native.Mathlib.Omega.{arith}
 use borrow.Author.Tests.{le-leb, lt-leb}
 use Rattle.trail.specs.Trail.{castCode}
-use Rattle.lookup.proofs.Loops.{Any, any-start, any-hit, any-next, any-end}
+use Rattle.csdl.proofs.Loops.{Any, any-start, any-hit, any-next, any-end}
 use borrow.Author.Needs.{needs}
 use Rattle.trail.proofs.codes.has_cast.Statement.{statement}
 use Rattle.trail.proofs.codes.has_cast.Tie as tie
