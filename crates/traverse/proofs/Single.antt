@@ -13,7 +13,7 @@ use Rattle.csdl.specs.Walk.{Item, Origin, opening, openedBy, after, nextStage, 
 use Rattle.csdl.specs.Walk.Item.{null, held}
 use Rattle.csdl.specs.Walk.Origin.{at-slot}
 use Rattle.soundness.proofs.Lists.{flat-one, flat-append}
-use Rattle.traverse.specs.Seen.{itemOf, erase, erased}
+use Rattle.step.specs.Seen.{itemOf, erase, erased}
 
 flat-flat : {A B C : Type 0} (f : B → List C) (g : A → List B) (l : List A) → flat f (flat g l) ≡ flat (λ x. flat f (g x)) l
 unfolding flat

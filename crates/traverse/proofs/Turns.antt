@@ -17,7 +17,7 @@ use Rattle.csdl.specs.Walk.{Item, handleBytes, bytesOfItem}
 use Rattle.csdl.specs.Walk.Item.{held}
 use Rattle.csdl.specs.Walk.Origin.{at-slot}
 use Rattle.csdl.proofs.Logic.{or-no, and-cases}
-use Rattle.traverse.specs.Seen.{nullCode, itemOf, pathFrom, written, openings, stopsAt, refAt, handleAt, StepIs}
+use Rattle.step.specs.Seen.{nullCode, itemOf, pathFrom, written, openings, stopsAt, refAt, handleAt, StepIs}
 use Rattle.traverse.proofs.Going.{rest-all, Going, going-start}
 use Rattle.traverse.proofs.Single.{bytes, opens, bytes-null, opens-null, bytes-end, opens-end, bytes-step, count-step}
 

@@ -29,7 +29,7 @@ use Rattle.nodes.proofs.Sizes.{sized}
 use Rattle.segments.specs.Kinds.{kindOf}
 use Rattle.soundness.proofs.Counts.{bytes-length}
 use Rattle.soundness.proofs.Demands.{results-are, opened-are, not-refused, opened-at-most, results-at-most, results-fit-buffer}
-use Rattle.traverse.specs.Chosen.{choiceOf}
+use Rattle.choice.specs.Chosen.{choiceOf}
 use Rattle.walk.specs.Along.{bytesAlong, openedAlong}
 
 is-chosen : (kind holder : ℕ) → walk27 (choiceOf kind holder) ≡ false → choiceOf kind holder ≡ chosen (kindOf kind) holder

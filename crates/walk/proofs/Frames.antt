@@ -19,7 +19,7 @@ use Rattle.csdl.specs.declared.Record.the-variants.{OfSchema, OfType, OfPropert
 use Rattle.form.proofs.Frame.{record-at-frame}
 use Rattle.parts.specs.Tables.{schemasIn, typesIn, propertiesIn, keysIn, constraintsIn, childrenIn, bindingsIn, segmentsIn, namesIn, nodesIn, slotsIn, itemsIn}
 use Rattle.segments.proofs.Frame.{path-frame, start-frame}
-use Rattle.traverse.specs.Seen.{walkModel, itemOf, pathFrom, written, openings}
+use Rattle.step.specs.Seen.{walkModel, itemOf, pathFrom, written, openings}
 use Rattle.walk.specs.Along.{bytesAlong, openedAlong}
 
 flat-same : {A B : Type 0} (f g : A → List B) → ((x : A) → f x ≡ g x) → (l : List A) → flat f l ≡ flat g l

@@ -9,8 +9,12 @@ ghost use Rattle.csdl.specs.Path.{pathOf, startOf};
 ghost use Rattle.csdl.specs.Instance.{instanceIn, image20};
 ghost use Rattle.csdl.specs.Walk.{walkPath, walk28, walk29};
 ghost use Rattle.segments.specs.Kinds.{kindOf};
-ghost use Rattle.traverse.specs.Chosen.{choiceOf};
+ghost use Rattle.choice.specs.Chosen.{choiceOf};
 ghost use Rattle.walk.specs.Along.{bytesAlong, openedAlong};
+use choice::Choice;
+use choice::choose;
+use choice::walk_28;
+use choice::walk_29;
 use nodes::fields::node_type;
 use parts::instance::items_of;
 use parts::instance::nodes_of;
@@ -27,12 +31,8 @@ use parts::model::types_of;
 use records::fields::Run;
 use segments::kinds::path_of;
 use segments::kinds::start_of;
-use traverse::choice::Choice;
-use traverse::choice::choose;
-use traverse::choice::walk_28;
-use traverse::choice::walk_29;
-use traverse::deep::Done;
-use traverse::deep::walk_from;
+use traverse::Done;
+use traverse::walk_from;
 
 // The path of a number of the record at a place.
 pub fn choice_in(model: &[u8], place: u32, path: u32) -> Choice

@@ -13,10 +13,10 @@ use crate::images::path_in;
 use crate::images::short_results;
 use crate::images::start_in;
 use crate::images::walk_along;
+use choice::walk_27;
 use conformance::check_instance;
 use csdl::InstanceAnswer;
 use csdl::WalkAnswer;
-use traverse::choice::walk_27;
 
 // The walk through an instance that conforms to its model.
 fn walk_conforming(
