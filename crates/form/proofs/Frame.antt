@@ -5,7 +5,7 @@ use Prim.Native.Nat.{ℕ}
 use Rattle.csdl.specs.declared.Record.{Record}
 use Rattle.csdl.specs.declared.Record.the-variants.{OfSchema, OfType, OfProperty, OfKey, OfConstraint, OfChild, OfBinding, OfSegment, Nowhere}
 use Rattle.csdl.specs.Model.{modelOf, recordAt}
-use Rattle.csdl.specs.Form.{rule3, rule5, rule6, rule7, name5a, alias5a, namespace5b, schema6, sharesName, namesSchema, type7a, sameType, child7b}
+use Rattle.csdl.specs.Form.{rule3, rule5, name5a, alias5a, namespace5b}
 
 module _ (schemas types properties keys constraints children bindings segments names : List ℕ) where
   pub record-at-frame : (place : ℕ)
@@ -39,13 +39,3 @@ module _ (schemas types properties keys constraints children bindings segments n
   rule-5-frame (OfBinding b) = refl
   rule-5-frame (OfSegment g) = refl
   rule-5-frame Nowhere = refl
-
-  pub rule-6-frame : (r : Record) → rule6 (modelOf schemas [] [] [] [] [] [] [] names) r
-      ≡ rule6 (modelOf schemas types properties keys constraints children bindings segments names) r
-  unfolding schema6 sharesName namesSchema modelOf
-  rule-6-frame r = refl
-
-  pub rule-7-frame : (r : Record) → rule7 (modelOf [] types [] [] [] children [] [] names) r
-      ≡ rule7 (modelOf schemas types properties keys constraints children bindings segments names) r
-  unfolding rule7 type7a sameType child7b modelOf
-  rule-7-frame r = refl

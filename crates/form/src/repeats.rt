@@ -4,7 +4,6 @@ ghost use mathlib.Core.List.{[]};
 ghost use Rattle.csdl.specs.Model.{modelOf};
 ghost use Rattle.csdl.specs.Form as rules;
 ghost use Rattle.form.specs.Fields.{sameChild};
-use csdl::Record;
 use packed::same_bytes;
 use records::children::child_name;
 use records::fields::text_of;
@@ -60,21 +59,4 @@ pub fn child_7(children: &[u8], names: &[u8], h: u16) -> bool
         j += 1;
     }
     false
-}
-
-// Rule 7 of a record.
-pub fn rule_7(types: &[u8], children: &[u8], names: &[u8], rec: Record) -> bool
-    ensures { λ r. ⌜ r ≡ rules.rule7 (modelOf [] (now (types .entry)) [] [] [] (now (children .entry)) [] [] (now (names .entry))) rec ⌝ }
-{
-    match rec {
-        Record::OfSchema(_) => false,
-        Record::OfType(t) => type_7(types, names, t),
-        Record::OfProperty(_) => false,
-        Record::OfKey(_) => false,
-        Record::OfConstraint(_) => false,
-        Record::OfChild(h) => child_7(children, names, h),
-        Record::OfBinding(_) => false,
-        Record::OfSegment(_) => false,
-        Record::Nowhere => false,
-    }
 }

@@ -4,7 +4,6 @@ ghost use mathlib.Core.List.{[]};
 ghost use mathlib.Core.Bool.{_||_};
 ghost use Rattle.csdl.specs.Model.{modelOf};
 ghost use Rattle.csdl.specs.Form as rules;
-use csdl::Record;
 use packed::same_bytes;
 use records::fields::text_of;
 use records::schemas::schema_alias;
@@ -77,21 +76,4 @@ pub fn schema_6(schemas: &[u8], names: &[u8], i: u16) -> bool
     ensures { λ r. ⌜ r ≡ rules.schema6 (modelOf (now (schemas .entry)) [] [] [] [] [] [] [] (now (names .entry))) i ⌝ }
 {
     schema_6ab(schemas, names, i) | schema_6c(schemas, names, i)
-}
-
-// Rule 6 of a record.
-pub fn rule_6(schemas: &[u8], names: &[u8], rec: Record) -> bool
-    ensures { λ r. ⌜ r ≡ rules.rule6 (modelOf (now (schemas .entry)) [] [] [] [] [] [] [] (now (names .entry))) rec ⌝ }
-{
-    match rec {
-        Record::OfSchema(s) => schema_6(schemas, names, s),
-        Record::OfType(_) => false,
-        Record::OfProperty(_) => false,
-        Record::OfKey(_) => false,
-        Record::OfConstraint(_) => false,
-        Record::OfChild(_) => false,
-        Record::OfBinding(_) => false,
-        Record::OfSegment(_) => false,
-        Record::Nowhere => false,
-    }
 }

@@ -1,10 +1,10 @@
 -- The index of the properties: filling it, and following a chain. Assumes nothing.
-use Prim.Native.Nat.{ℕ, zero, suc, _+_, _-_, _≤_, _<_}
+use Prim.Native.Nat.{ℕ, suc, _+_, _-_, _≤_, _<_}
 use mathlib.Core.Path.{_≡_, refl, sym, ap, _∙_}
 use mathlib.Core.List.{List}
 use mathlib.Core.Logic.{⊎-elim}
-use mathlib.Core.Bool.{Bool, true, false, cond}
-use native.Mathlib.Nat.{sub-self, add-zero, eq-or-lt-of-le}
+use mathlib.Core.Bool.{Bool, true, false}
+use native.Mathlib.Nat.{sub-self, eq-or-lt-of-le}
 use native.Mathlib.Numerals.{add-one}
 use native.Mathlib.Omega.{arith}
 use lib.Dec.{eqb}

@@ -1,12 +1,12 @@
 -- One step of a climb, as the code takes it: b is what `next` gives at t. Assumes nothing.
-use Prim.Native.Nat.{ℕ, zero, suc, _+_, _-_, _≤_, _<_}
-use mathlib.Core.Path.{_≡_, refl, sym, _∙_}
-use mathlib.Core.Bool.{Bool, true, false, cond}
+use Prim.Native.Nat.{ℕ, zero, suc, _-_}
+use mathlib.Core.Path.{_≡_, refl}
+use mathlib.Core.Bool.{Bool, true, false}
 use native.Mathlib.Omega.{arith}
 use borrow.Author.Tests.{eq-eqb, ne-eqb}
 use Rattle.csdl.specs.Climb.{climb, topmost, nearest}
 
-less-one : (l : ℕ) → suc l - 1 ≡ l
+pub less-one : (l : ℕ) → suc l - 1 ≡ l
 less-one l = omega arith
 
 pub climb-out : (next : ℕ → ℕ) (a t left : ℕ) → left ≡ 0 → false ≡ climb next left a t

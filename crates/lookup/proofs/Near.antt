@@ -1,6 +1,6 @@
 -- The nearest declaration, found in one pass over the declarations. Assumes nothing.
 use Prim.Native.Nat.{ℕ, zero, suc, _+_, _-_, _≤_, _<_}
-use mathlib.Core.Path.{_≡_, refl, sym, ap, _∙_}
+use mathlib.Core.Path.{_≡_, refl, sym, _∙_}
 use mathlib.Core.Bool.{Bool, true, false, cond, _&&_}
 use native.Mathlib.Numerals.{add-one}
 use native.Mathlib.Nat.{add-zero, zero-add}
@@ -9,6 +9,7 @@ use lib.Dec.{eqb}
 use borrow.Author.Tests.{eq-eqb, ne-eqb}
 use Rattle.csdl.specs.Search.{firstFrom, orElse, mark}
 use Rattle.csdl.specs.Climb.{nearest}
+use Rattle.lookup.proofs.Climb.{less-one}
 use Rattle.lookup.specs.Near.{leftOr, leftAt, only}
 
 -- ---- what a climb gives, of answers f and of g, which also has k + 1 at the number w
@@ -69,9 +70,6 @@ module _ (next : ℕ → ℕ) where
       (rw (e t, i .0) (zeros (eqb (next t) 0)), rw (e t, i .1) (zeros (eqb (next t) 0)))
 
 -- ---- one step of the climb to u, as the code takes it: b is what `next` gives at t
-less-one : (l : ℕ) → suc l - 1 ≡ l
-less-one l = omega arith
-
 module _ (next : ℕ → ℕ) (u t : ℕ) where
   pub left-out : (left : ℕ) → left ≡ 0 → 0 ≡ leftAt (only u) next left t
   unfolding leftAt

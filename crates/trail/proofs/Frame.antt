@@ -2,13 +2,13 @@
 use Prim.Native.Nat.{ℕ, zero, suc, _+_, _≤_}
 use mathlib.Core.Path.{_≡_, refl, sym, _∙_}
 use mathlib.Core.List.{List, []}
-use mathlib.Core.Bool.{Bool, _&&_}
+use mathlib.Core.Bool.{Bool}
 use native.Mathlib.Omega.{arith}
 use lib.ListN.{length}
 use Rattle.csdl.specs.Search.{tab}
 use Rattle.csdl.specs.Model.{modelOf}
 use Rattle.csdl.specs.Find.{structured, isAt, ancestor, find, own, declares}
-use Rattle.csdl.specs.Path.{Segment, segmentAt, stepAt, movesTo, resolvesAt, resolves, endOf, alongAll, alongEnd, Kind, pathOf, startOf, stepsOf, pathSteps, pathEnd}
+use Rattle.csdl.specs.Path.{Segment, segmentAt, stepAt, movesTo, resolvesAt, resolves, endOf, alongAll, alongEnd, Kind, pathOf, startOf}
 use Rattle.csdl.specs.Path.Segment.{name, cast}
 use Rattle.trail.specs.Trail.{TrailOf, prefix, stepNo, codeAt}
 
@@ -80,16 +80,6 @@ module _ (sc ty pr ke co ch bi sg nm : List ℕ) where
       → count ≡ pathOf (modelOf sc ty pr ke co ch bi sg nm) w r .count
       → TrailOf (modelOf sc ty pr ke co ch bi sg nm) (startOf (modelOf sc ty pr ke co ch bi sg nm) w r) (pathOf (modelOf sc ty pr ke co ch bi sg nm) w r .first) (pathOf (modelOf sc ty pr ke co ch bi sg nm) w r .count) codes taken end
   path-trail w r {start} {first} {count} {codes} {taken} {end} t e f g = rw (← e, ← f, ← g) (trail-frame start first count codes taken end t)
-
-  pub path-steps : (w : Kind) (r : ℕ) {start first count : ℕ} → start ≡ startOf (modelOf sc ty pr ke co ch bi sg nm) w r
-      → first ≡ pathOf (modelOf sc ty pr ke co ch bi sg nm) w r .first → count ≡ pathOf (modelOf sc ty pr ke co ch bi sg nm) w r .count
-      → stepsOf (modelOf sc ty pr ke co ch bi sg nm) start (prefix (modelOf sc ty pr ke co ch bi sg nm) first count) ≡ pathSteps (modelOf sc ty pr ke co ch bi sg nm) w r
-  path-steps w r e f g = rw (e, f, g)
-
-  pub path-end : (w : Kind) (r : ℕ) {start first count : ℕ} → start ≡ startOf (modelOf sc ty pr ke co ch bi sg nm) w r
-      → first ≡ pathOf (modelOf sc ty pr ke co ch bi sg nm) w r .first → count ≡ pathOf (modelOf sc ty pr ke co ch bi sg nm) w r .count
-      → endOf (modelOf sc ty pr ke co ch bi sg nm) start (prefix (modelOf sc ty pr ke co ch bi sg nm) first count) ≡ pathEnd (modelOf sc ty pr ke co ch bi sg nm) w r
-  path-end w r e f g = rw (e, f, g)
 
   pub few-properties : length pr ≤ 3584 → modelOf sc ty pr ke co ch bi sg nm .properties ≤ 32768
   unfolding modelOf

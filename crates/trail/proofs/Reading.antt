@@ -2,23 +2,23 @@
 use Prim.Native.Nat.{ℕ, zero, suc, _+_, _-_, _≤_, _<_}
 use mathlib.Core.Path.{_≡_, refl, sym, _∙_, ap}
 use mathlib.Core.List.{List, [], _∷_, _++_, append-nil}
-use mathlib.Core.Bool.{Bool, true, false, cond, not, _&&_, _||_}
+use mathlib.Core.Bool.{Bool, true, false, cond, not, _||_}
 use native.Mathlib.Nat.{add-zero, zero-add}
 use native.Mathlib.Omega.{arith}
-use lib.Dec.{eqb, ltb, leb, eqb·suc-zero}
-use lib.ListN.{length, getD}
+use lib.Dec.{eqb, eqb·suc-zero}
+use lib.ListN.{getD}
 use borrow.Author.Tests.{le-leb, lt-leb, lt-ltb, le-ltb}
 use Rattle.csdl.specs.Search.{tab, anyFrom, firstFrom, some, butLast, lastOr, orElse}
 use Rattle.csdl.specs.Climb.{nearest}
 use Rattle.csdl.specs.Model.{Model}
 use Rattle.csdl.specs.Find.{find, own, containStep}
-use Rattle.csdl.specs.Path.{Segment, Step, segmentAt, stepAt, stepsOf, isType, isProperty, isOther, propertyOf, properties, Kind, pathOf, startOf, stepIn}
+use Rattle.csdl.specs.Path.{Segment, Step, stepAt, stepsOf, isType, isProperty, isOther, propertyOf, properties}
 use Rattle.csdl.specs.Path.Step.{property, type}
 use Rattle.csdl.specs.Path.Segment.{name, cast}
 use Rattle.csdl.specs.Paths.{hasCast, lastStep, lastProperty, bindingForm, crosses, targetForm, targetStep}
 use Rattle.csdl.specs.Verdict.{stepCode}
 use Rattle.trail.specs.Trail.{TrailOf, prefix, stepNo, codeAt, castCode, isCode, otherCode, numberOf, lastCode, lastName, formOf}
-use Rattle.trail.proofs.Laws.{tab-same, but-last-tab, last-tab, some-tab, any-same, steps-tab}
+use Rattle.trail.proofs.Laws.{but-last-tab, last-tab, some-tab, any-same, steps-tab}
 
 -- ---- a property's number is below the count
 first-le : (test : ℕ → Bool) (i n : ℕ) → firstFrom test i n ≤ i + n
@@ -119,9 +119,6 @@ unfolding stepNo
 steps-list m start first n = steps-tab _ _ _ start first n
 
 -- what segment g of the path resolves to, by its number in the path
-pub step-in-path : (m : Model) (w : Kind) (r g : ℕ) → pathOf m w r .first ≤ g → stepIn m w r g ≡ stepNo m (startOf m w r) (pathOf m w r .first) (g - pathOf m w r .first)
-unfolding stepIn stepNo
-step-in-path m w r g h = let e : pathOf m w r .first + (g - pathOf m w r .first) ≡ g = omega arith in rw e
 
 module _ (m : Model) (start first n : ℕ) (codes : List ℕ) (taken end : ℕ) (trail : TrailOf m start first n codes taken end) (few : m .properties ≤ 32768) where
   no-small : (k : ℕ) → propertyOf (stepNo m start first k) < 32768
@@ -174,9 +171,6 @@ module _ (m : Model) (start first n : ℕ) (codes : List ℕ) (taken end : ℕ) 
       go : (j : ℕ) → propertyOf (lastOr (type 0) (tab (λ k. stepNo m start first k) 0 j)) < 32768
       go zero = omega arith
       go (suc j) = rw (last-tab (λ k. stepNo m start first k) (type 0) 0 j) (no-small (0 + j))
-
-  pub last-cast : castCode (lastCode codes n) ≡ isType (lastStep (stepsOf m start (prefix m first n)))
-  last-cast = rw last-step (code-cast (lastStep (stepsOf m start (prefix m first n))) last-small)
 
   pub last-is : (test : ℕ → Bool) → isCode test (lastCode codes n) ≡ isProperty test (lastStep (stepsOf m start (prefix m first n)))
   last-is test = rw last-step (code-is test (lastStep (stepsOf m start (prefix m first n))) last-small)

@@ -6,7 +6,6 @@ use Rattle.csdl.specs.Model.{modelOf}
 use Rattle.csdl.specs.Find.{ofKind, structured, ancestor, isAt, complexStep, containStep, integral}
 use Rattle.csdl.specs.Types.{type8, type9}
 use Rattle.csdl.specs.Properties.{streams, property10, sameName, redeclares, property11a, property11b, property11, required, requiredStep, type12}
-use Rattle.typing.specs.Cycles.{cyclic}
 
 module _ (sc ty pr ke co ch bi sg nm : List ℕ) where
   pub type-8-frame : (t : ℕ) → type8 (modelOf [] ty [] [] [] [] [] [] []) t ≡ type8 (modelOf sc ty pr ke co ch bi sg nm) t
@@ -32,7 +31,3 @@ module _ (sc ty pr ke co ch bi sg nm : List ℕ) where
   pub type-12-frame : (t : ℕ) → type12 (modelOf [] ty pr [] [] [] [] [] []) t ≡ type12 (modelOf sc ty pr ke co ch bi sg nm) t
   unfolding modelOf type12 requiredStep required integral complexStep containStep ofKind isAt ancestor
   type-12-frame t = refl
-
-  pub cyclic-frame : cyclic (modelOf [] ty pr [] [] [] [] [] []) ≡ cyclic (modelOf sc ty pr ke co ch bi sg nm)
-  unfolding modelOf cyclic type12 requiredStep required integral complexStep containStep ofKind isAt ancestor
-  cyclic-frame = refl

@@ -1,5 +1,5 @@
 -- Loops that go through all numbers: what `anyFrom` is, with one number more.
-use Prim.Native.Nat.{ℕ, zero, suc, _+_, _<_}
+use Prim.Native.Nat.{ℕ, zero, suc, _+_}
 use mathlib.Core.Path.{_≡_, refl, sym}
 use mathlib.Core.Bool.{Bool, true, false, cond, _||_, or-false, or-assoc}
 use native.Mathlib.Nat.{add-zero}
@@ -31,14 +31,3 @@ pub gather-next : (has : Bool) (test : ℕ → Bool) (n : ℕ) (s r : Bool) → 
 gather-next has test n s r e q =
     let z : 0 + n ≡ n = omega arith in
     rw (q, e, add-one n, more test 0 n, z) (or-assoc has (anyFrom test 0 n) (test n))
-
--- Tests that agree on the numbers searched.
-pub any-same : (f g : ℕ → Bool) (i n : ℕ) → ((k : ℕ) → k < i + n → f k ≡ g k) → anyFrom f i n ≡ anyFrom g i n
-unfolding anyFrom
-any-same f g i zero all = refl
-any-same f g i (suc n) all = rw (all i (omega arith), any-same f g (i + 1) n (λ k h. all k (omega arith)))
-
-pub any-none : (test : ℕ → Bool) (i n : ℕ) → ((k : ℕ) → test k ≡ false) → anyFrom test i n ≡ false
-unfolding anyFrom
-any-none test i zero never = refl
-any-none test i (suc n) never = rw (never i, any-none test (i + 1) n never)

@@ -8,7 +8,7 @@ use native.Mathlib.Omega.{arith}
 use lib.ListN.{getD}
 use Rattle.csdl.specs.Search.{anyFrom, tab}
 use Rattle.csdl.specs.Climb.{rounds, reaches}
-use Rattle.typing.proofs.Gather.{any-same}
+use Rattle.csdl.proofs.Logic.{any-same}
 
 tab-from : (f : ℕ → Bool) (n i k : ℕ) → k < n → getD (tab f i n) k false ≡ f (i + k)
 unfolding tab
@@ -37,7 +37,7 @@ module _ (step : ℕ → ℕ → Bool) (n a : ℕ) where
       → (b : ℕ) → b < n → has b || anyFrom (λ c. has c && step c b) 0 n ≡ reached (k + 1) b
   round-of has k all b h =
       rw (add-one k)
-      (ap₂ _||_ (all b h) (any-same (λ c. has c && step c b) (λ c. reached k c && step c b) 0 n (λ c l. rw (all c (omega arith))))
+      (ap₂ _||_ (all b h) (any-same (λ c. has c && step c b) (λ c. reached k c && step c b) 0 n (λ c a l. rw (all c (omega arith))))
       ∙ sym (round-more k b h))
 
   settled : (k : ℕ) → ((b : ℕ) → b < n → reached (k + 1) b ≡ reached k b) → (j b : ℕ) → b < n → reached (k + j) b ≡ reached k b
@@ -66,5 +66,5 @@ rounds-same f g n a l all (suc k) b h =
     round-more f n a k b h
     ∙ ap₂ _||_ (rounds-same f g n a l all k b h)
     (any-same (λ c. reached f n a k c && f c b) (λ c. reached g n a k c && g c b) 0 n
-    (λ c i. ap₂ _&&_ (rounds-same f g n a l all k c (omega arith)) (all c b (omega arith) h)))
+    (λ c e i. ap₂ _&&_ (rounds-same f g n a l all k c (omega arith)) (all c b (omega arith) h)))
     ∙ sym (round-more g n a k b h)

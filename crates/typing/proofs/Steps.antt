@@ -13,7 +13,7 @@ use Rattle.csdl.specs.Properties.{requiredStep, type12, property11b}
 use Rattle.lines.specs.Sets.{member, Holds, setOf, stepOf}
 use Rattle.typing.specs.Cycles.{cyclic}
 use Rattle.typing.specs.Steps.{leads, clash}
-use Rattle.typing.proofs.Gather.{any-same, any-none}
+use Rattle.csdl.proofs.Logic.{any-same, none-any}
 use Rattle.lines.proofs.SetLaws.{member-none, member-set, set-same}
 use Rattle.typing.proofs.Rounds.{rounds-same}
 
@@ -21,17 +21,17 @@ use Rattle.typing.proofs.Rounds.{rounds-same}
 pub steps-lead : (m : Model) (line t u : ℕ) → ((p : ℕ) → member line (m .owner p) ≡ isAt m (m .owner p) t)
     → anyFrom (λ p. leads m line u p) 0 (m .properties) ≡ requiredStep m t u
 unfolding leads requiredStep
-steps-lead m line t u all = any-same _ _ 0 (m .properties) (λ p h. rw (all p))
+steps-lead m line t u all = any-same _ _ 0 (m .properties) (λ p a h. rw (all p))
 
 -- The set has the ancestors of p's owner.
 pub clash-any : (m : Model) (above p : ℕ) → ((q : ℕ) → member above (m .owner q) ≡ ancestor m (m .owner q) (m .owner p))
     → anyFrom (λ q. clash m above p q) 0 (m .properties) ≡ property11b m p
 unfolding clash property11b
-clash-any m above p all = any-same _ _ 0 (m .properties) (λ q h. rw (all q))
+clash-any m above p all = any-same _ _ 0 (m .properties) (λ q a h. rw (all q))
 
 pub clash-none : (m : Model) (p : ℕ) → anyFrom (λ q. clash m 0 p q) 0 (m .properties) ≡ false
 unfolding clash
-clash-none m p = any-none _ 0 (m .properties) (λ q. rw (member-none (m .owner q)))
+clash-none m p = none-any _ 0 (m .properties) (λ q a h. rw (member-none (m .owner q)))
 
 -- Row t has the steps of t.
 pub cyclic-rows : (m : Model) (rows : List ℕ) → m .types ≤ 64 → ((t : ℕ) → t < m .types → Holds 64 (getD rows t 0) (λ u. requiredStep m t u))
