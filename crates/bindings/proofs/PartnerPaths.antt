@@ -1,70 +1,78 @@
--- Rule 17 out of the codes of a partner path. Assumes nothing.
-use Prim.Native.Nat.{ℕ, _≤_}
+-- Rule 17 out of the codes of all segments. Assumes nothing.
+use Prim.Native.Nat.{ℕ, zero, suc, _≤_, _<_}
 use mathlib.Core.Path.{_≡_, refl, ap, ap₂}
-use mathlib.Core.List.{List, []}
-use mathlib.Core.Bool.{Bool, true, false, not, _||_}
-use lib.ListN.{length}
-use borrow.Author.Tests.{ne-eqb}
-use Rattle.csdl.specs.Tables.{propertyTypeRef, propertyPartner}
-use Rattle.csdl.specs.Model.{modelOf, present}
-use Rattle.csdl.specs.Path.{startOf, pathOf, pathSteps, isProperty}
+use mathlib.Core.List.{List}
+use mathlib.Core.Bool.{Bool, true, false, not, _&&_, _||_}
+use native.Mathlib.Omega.{arith}
+use lib.Dec.{eqb}
+use lib.ListN.{getD}
+use Rattle.csdl.specs.Search.{tab, lastOr}
+use Rattle.csdl.specs.Model.{Model, present}
+use Rattle.csdl.specs.Path.{Kind, Segment, holders, pathOf, startOf, pathSteps, stepAt, isProperty, propertyOf}
 use Rattle.csdl.specs.Path.Kind.{partner}
-use Rattle.csdl.specs.Paths.{lastStep, partnerOf, property17a, property17b, property17c, property17d, property17e, property17f, property17}
-use Rattle.trail.specs.Trail.{TrailOf, isCode, lastCode, numberOf}
-use Rattle.trail.proofs.Reading.{is-steps, last-is, last-number}
+use Rattle.csdl.specs.Path.Segment.{name, cast}
+use Rattle.csdl.specs.Path.Step.{type}
+use Rattle.csdl.specs.Paths.{lastStep, partnerOf, otherContained, property17a, property17b, property17c, property17d, property17e, property17f, property17}
+use Rattle.trail.specs.Trail.{stepNo, codeAt, isCode, numberOf}
+use Rattle.trail.specs.Coded.{Coded}
+use Rattle.trail.proofs.Laws.{last-tab, any-same}
+use Rattle.trail.proofs.Reading.{find-le, steps-list, is-steps, last-is, last-number}
+use Rattle.trail.proofs.Runs.{run-codes}
 use Rattle.paths.specs.Steps.{stepTest}
-use Rattle.trail.proofs.Frame.{path-trail, few-properties}
-use Rattle.bindings.specs.Partners.{partnerCodes, otherPartner, containedPartner, sharedContainment, partnerEnds}
-
-module _ (ty pr sg nm : List ℕ) (h : length pr ≤ 3584) (p start first n : ℕ) (codes : List ℕ) (taken end : ℕ) (e : start ≡ propertyTypeRef pr p)
-    (f : first ≡ propertyPartner pr p .first) (g : n ≡ propertyPartner pr p .count) (t : TrailOf (modelOf [] ty pr [] [] [] [] sg nm) start first n codes taken end) where
-  -- the last step
-  pub partner-is : (test : ℕ → Bool) → isCode test (lastCode codes n) ≡ isProperty test (lastStep (pathSteps (modelOf [] ty pr [] [] [] [] sg nm) partner p))
-  unfolding modelOf startOf pathOf
-  partner-is test =
-      let m = modelOf [] ty pr [] [] [] [] sg nm in
-      rw g (last-is m _ _ _ codes taken end (path-trail [] ty pr [] [] [] [] sg nm partner p t e f g) (few-properties [] ty pr [] [] [] [] sg nm h) test)
-
-  pub partner-number : numberOf (lastCode codes n) ≡ partnerOf (modelOf [] ty pr [] [] [] [] sg nm) p
-  unfolding modelOf startOf pathOf
-  partner-number =
-      let m = modelOf [] ty pr [] [] [] [] sg nm in
-      rw g (last-number m _ _ _ codes taken end (path-trail [] ty pr [] [] [] [] sg nm partner p t e f g) (few-properties [] ty pr [] [] [] [] sg nm h))
-
-  -- 17a, 17b
-  pub partner-path : partnerCodes (modelOf [] ty pr [] [] [] [] [] []) codes n ≡ (property17a (modelOf [] ty pr [] [] [] [] sg nm) p || property17b (modelOf [] ty pr [] [] [] [] sg nm) p)
-  unfolding modelOf startOf pathOf partnerCodes stepTest
-  partner-path =
-      let m = modelOf [] ty pr [] [] [] [] sg nm in
-      let few = few-properties [] ty pr [] [] [] [] sg nm h in
-      let s = path-trail [] ty pr [] [] [] [] sg nm partner p t e f g in
-      rw g (ap₂ _||_ (ap not (last-is m _ _ _ codes taken end s few (λ q. m .navigation q))) (is-steps m _ _ _ codes taken end s few (λ q. m .navigation q)))
+use Rattle.bindings.specs.Runs.{pathRun}
+use Rattle.bindings.specs.Partners.{partnerLast, partnerCodes, otherPartner, containedPartner, otherContains, sharedContainment, partnerEnds, partnerCoded}
 
 order : (a b c d e f : Bool) → (a || b || (c || d || e || f)) ≡ (a || b || c || d || e || f)
 order true b c d e f = refl
 order false true c d e f = refl
 order false false c d e f = refl
 
--- rule 17 out of its clauses, of a property that has a partner, and of one that has none
-module _ (ty pr sg nm : List ℕ) (p n : ℕ) (g : n ≡ propertyPartner pr p .count) where
-  there : (n ≡ 0 → ⊥) → present (modelOf [] ty pr [] [] [] [] sg nm .partner p) ≡ true
-  unfolding modelOf
-  there d = rw (← g, ne-eqb n 0 d)
+-- the property that a path of a model with properties leads to is one of them
+step-below : (m : Model) (t : ℕ) (g : Segment) → 0 < m .properties → propertyOf (stepAt m t g) < m .properties
+unfolding stepAt
+step-below m t (name x) h = omega (arith, find-le m x t)
+step-below m t (cast c) h = h
 
-  absent : n ≡ 0 → present (modelOf [] ty pr [] [] [] [] sg nm .partner p) ≡ false
-  unfolding modelOf
-  absent z = rw (← g, z)
+last-below : (m : Model) (w : Kind) (r : ℕ) → 0 < m .properties → propertyOf (lastStep (pathSteps m w r)) < m .properties
+unfolding tab lastOr stepNo
+last-below m w r h = rw (steps-list m (startOf m w r) (pathOf m w r .first) (pathOf m w r .count)) (go (pathOf m w r .count))
+  where
+    go : (j : ℕ) → propertyOf (lastOr (type 0) (tab (λ k. stepNo m (startOf m w r) (pathOf m w r .first) k) 0 j)) < m .properties
+    go zero = h
+    go (suc j) = rw (last-tab (λ k. stepNo m (startOf m w r) (pathOf m w r .first) k) (type 0) 0 j) (step-below m _ _ h)
 
-  pub partner-whole : (n ≡ 0 → ⊥) → (x y : Bool) (q : ℕ)
-      → x ≡ (property17a (modelOf [] ty pr [] [] [] [] sg nm) p || property17b (modelOf [] ty pr [] [] [] [] sg nm) p)
-      → q ≡ partnerOf (modelOf [] ty pr [] [] [] [] sg nm) p
-      → y ≡ partnerEnds (modelOf [] ty pr [] [] [] [] sg nm) p q
-      → (x || y) ≡ property17 (modelOf [] ty pr [] [] [] [] sg nm) p
-  unfolding property17 partnerEnds otherPartner containedPartner sharedContainment
-  partner-whole d x y q ex eq ey =
-      let m = modelOf [] ty pr [] [] [] [] sg nm in
-      rw (ex, ey, eq, there d) (order (property17a m p) (property17b m p) (property17c m p) (property17d m p) (property17e m p) (property17f m p))
+module _ (m : Model) (codes : List ℕ) (table : Coded m codes) (few : m .properties ≤ 32768) (short : (w : Kind) (r : ℕ) → pathOf m w r .count < 16) where
+  module _ (p : ℕ) (there : p < m .properties) where
+    partner-run : (k : ℕ) → k < pathOf m partner p .count → getD (pathRun m codes partner p) k 0 ≡ codeAt m (startOf m partner p) (pathOf m partner p .first) k
+    unfolding holders
+    partner-run = run-codes m codes table partner p there (short partner p)
 
-  pub partner-none : n ≡ 0 → false ≡ property17 (modelOf [] ty pr [] [] [] [] sg nm) p
-  unfolding property17
-  partner-none z = rw (absent z)
+    -- the last step
+    partner-is : (test : ℕ → Bool) → isCode test (partnerLast m codes p) ≡ isProperty test (lastStep (pathSteps m partner p))
+    unfolding partnerLast
+    partner-is test = last-is m _ _ _ _ partner-run few test
+
+    partner-number : numberOf (partnerLast m codes p) ≡ partnerOf m p
+    unfolding partnerLast
+    partner-number = last-number m _ _ _ _ partner-run few
+
+    -- 17a, 17b
+    partner-path : partnerCodes m (pathRun m codes partner p) (pathOf m partner p .count) ≡ (property17a m p || property17b m p)
+    unfolding partnerCodes stepTest
+    partner-path = ap₂ _||_ (ap not (last-is m _ _ _ _ partner-run few (λ q. m .navigation q))) (is-steps m _ _ _ (pathRun m codes partner p) partner-run few (λ q. m .navigation q))
+
+  -- 17f, of another property q
+  other-is : (p q : ℕ) → q < m .properties → otherContains m codes p q ≡ otherContained m p q
+  unfolding otherContains otherContained
+  other-is p q h = rw (partner-is q h (λ x. m .contains x))
+
+  pub partner-coded : (p : ℕ) → p < m .properties → partnerCoded m codes p ≡ property17 m p
+  unfolding partnerCoded partnerEnds otherPartner containedPartner sharedContainment property17
+  partner-coded p h =
+      rw (
+        partner-path p h,
+        partner-number p h,
+        partner-is (partnerOf m p) (last-below m partner p (omega arith)) (λ x. eqb x p),
+        any-same (λ q. otherContains m codes p q) (λ q. otherContained m p q) 0 (m .properties) (λ q a b. other-is p q (omega arith)),
+      )
+      (ap (λ b. present (m .partner p) && b) (order (property17a m p) (property17b m p) (property17c m p) (property17d m p) (property17e m p) (property17f m p)))

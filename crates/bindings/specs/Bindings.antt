@@ -1,4 +1,4 @@
--- Rule 19, of the codes of a binding's paths.
+-- Rule 19, out of the codes of all segments.
 use Prim.Native.Nat.{ℕ}
 use mathlib.Core.List.{List}
 use mathlib.Core.Bool.{Bool, not, _&&_, _||_}
@@ -7,11 +7,13 @@ use lib.ListN.{getD}
 use Rattle.csdl.specs.Search.{anyFrom}
 use Rattle.csdl.specs.Model.{Model}
 use Rattle.csdl.specs.Find.{isAt}
-use Rattle.csdl.specs.Path.{segmentsOf, sameSegments}
-use Rattle.csdl.specs.Paths.{crosses}
+use Rattle.csdl.specs.Path.{pathOf, segmentsOf, sameSegments}
+use Rattle.csdl.specs.Path.Kind.{binding, target}
+use Rattle.csdl.specs.Paths.{crosses, binding19d, binding19e}
 use Rattle.trail.specs.Trail.{castCode, lastName, formOf}
 use Rattle.paths.specs.declared.steps.StepTest.the-variants.{NoTargetStep, NoContainment}
 use Rattle.paths.specs.Steps.{stepOrEnd}
+use Rattle.bindings.specs.Runs.{pathRun, runEnd}
 
 -- 19a to 19c, of the n codes of a path.
 unfoldable pub bindingCodes : Model → List ℕ → ℕ → Bool
@@ -28,3 +30,12 @@ targetCodes m codes n = anyFrom (λ k. castCode (getD codes k 0)) 0 n || stepOrE
 -- 19h, of the types at the ends of the two paths.
 unfoldable pub endsApart : Model → ℕ → ℕ → Bool
 endsApart m a b = not (isAt m a b) && not (isAt m b a)
+
+-- Rule 19 of binding b.
+unfoldable pub bindingCoded : Model → List ℕ → ℕ → Bool
+bindingCoded m codes b =
+    bindingCodes m (pathRun m codes binding b) (pathOf m binding b .count)
+    || binding19d m b
+    || binding19e m b
+    || targetCodes m (pathRun m codes target b) (pathOf m target b .count)
+    || endsApart m (runEnd m codes binding b) (runEnd m codes target b)

@@ -1,15 +1,11 @@
 // Rule 19: bindings.
 ghost use mathlib.Core.Path.{_≡_};
 ghost use mathlib.Core.List.{[]};
-ghost use mathlib.Core.Bool.{_||_};
 ghost use Prim.Native.Nat.{_≤_};
 ghost use lib.ListN.{length};
-ghost use Rattle.lookup.specs.Index.{Indexed};
 ghost use Rattle.csdl.specs.Model.{modelOf};
-ghost use Rattle.csdl.specs.Path.{pathEnd};
-ghost use Rattle.csdl.specs.Path.Kind.{binding, target};
-ghost use Rattle.csdl.specs.Paths.{binding19abc, binding19d, binding19e, binding19f, binding19g, binding19};
-ghost use Rattle.bindings.specs.Bindings.{againBound};
+ghost use Rattle.csdl.specs.Paths.{binding19d, binding19e};
+ghost use Rattle.bindings.specs.Bindings.{againBound, bindingCoded};
 use crate::forms::binding_codes;
 use crate::forms::ends_apart;
 use crate::forms::target_codes;
@@ -20,7 +16,8 @@ use records::bindings::binding_target;
 use records::bindings::binding_target_path;
 use records::children::child_singleton;
 use records::children::child_type;
-use trail::resolve::trail_of;
+use trail::codes::end_of;
+use trail::codes::run_of;
 
 // Whether bindings j and b have the same child and the same path.
 fn again_bound(bindings: &[u8], segments: &[u8], names: &[u8], j: u16, b: u16) -> bool
@@ -62,69 +59,7 @@ fn target_under_set(children: &[u8], bindings: &[u8], b: u16) -> bool
     (run.count != 0) & !child_singleton(children, binding_target(bindings, b))
 }
 
-// A path of a binding: whether its form fails, and the type reference at its end.
-struct Walk {
-    fails: bool,
-    end: u32,
-}
-
-// The path of the binding (19a to 19c).
-fn path_walk(
-    types: &[u8],
-    properties: &[u8],
-    children: &[u8],
-    bindings: &[u8],
-    segments: &[u8],
-    names: &[u8],
-    index: &[u16],
-    b: u16,
-) -> Walk
-    requires { ⌜ (length (now types) ≤ 384) × (length (now properties) ≤ 3584) × Indexed (now properties) (now names) (now index) ⌝ }
-    ensures { λ w. ⌜ w .fails ≡ binding19abc (modelOf [] (now (types .entry)) (now (properties .entry)) [] [] (now (children .entry)) (now (bindings .entry)) (now (segments .entry)) (now (names .entry))) b ⌝ }
-    ensures { λ w. ⌜ w .end ≡ pathEnd (modelOf [] (now (types .entry)) (now (properties .entry)) [] [] (now (children .entry)) (now (bindings .entry)) (now (segments .entry)) (now (names .entry))) binding b ⌝ }
-{
-    let run = binding_path(bindings, b);
-    let first = run.first;
-    let n = run.count;
-    let start = child_type(children, binding_child(bindings, b));
-    let trail = trail_of(types, properties, segments, names, index, start, first, n);
-    let codes = trail.codes;
-    let fails = binding_codes(types, properties, &codes, n);
-    Walk {
-        fails,
-        end: trail.end,
-    }
-}
-
-// Its target path (19f, 19g).
-fn target_walk(
-    types: &[u8],
-    properties: &[u8],
-    children: &[u8],
-    bindings: &[u8],
-    segments: &[u8],
-    names: &[u8],
-    index: &[u16],
-    b: u16,
-) -> Walk
-    requires { ⌜ (length (now types) ≤ 384) × (length (now properties) ≤ 3584) × Indexed (now properties) (now names) (now index) ⌝ }
-    ensures { λ w. ⌜ w .fails ≡ (binding19f (modelOf [] (now (types .entry)) (now (properties .entry)) [] [] (now (children .entry)) (now (bindings .entry)) (now (segments .entry)) (now (names .entry))) b || binding19g (modelOf [] (now (types .entry)) (now (properties .entry)) [] [] (now (children .entry)) (now (bindings .entry)) (now (segments .entry)) (now (names .entry))) b) ⌝ }
-    ensures { λ w. ⌜ w .end ≡ pathEnd (modelOf [] (now (types .entry)) (now (properties .entry)) [] [] (now (children .entry)) (now (bindings .entry)) (now (segments .entry)) (now (names .entry))) target b ⌝ }
-{
-    let run = binding_target_path(bindings, b);
-    let first = run.first;
-    let n = run.count;
-    let start = child_type(children, binding_target(bindings, b));
-    let trail = trail_of(types, properties, segments, names, index, start, first, n);
-    let codes = trail.codes;
-    let fails = target_codes(types, properties, &codes, n);
-    Walk {
-        fails,
-        end: trail.end,
-    }
-}
-
-// Whether binding b breaks rule 19.
+// Whether binding b breaks rule 19, out of the codes of all segments.
 pub fn binding_19(
     types: &[u8],
     properties: &[u8],
@@ -132,35 +67,25 @@ pub fn binding_19(
     bindings: &[u8],
     segments: &[u8],
     names: &[u8],
-    index: &[u16],
+    codes: &[u32],
     b: u16,
 ) -> bool
-    requires { ⌜ (length (now types) ≤ 384) × (length (now properties) ≤ 3584) × Indexed (now properties) (now names) (now index) ⌝ }
-    ensures { λ r. ⌜ r ≡ binding19 (modelOf [] (now (types .entry)) (now (properties .entry)) [] [] (now (children .entry)) (now (bindings .entry)) (now (segments .entry)) (now (names .entry))) b ⌝ }
+    requires { ⌜ length (now types) ≤ 384 ⌝ }
+    ensures { λ r. ⌜ r ≡ bindingCoded (modelOf [] (now (types .entry)) (now (properties .entry)) [] [] (now (children .entry)) (now (bindings .entry)) (now (segments .entry)) (now (names .entry))) (now (codes .entry)) b ⌝ }
 {
-    let path = path_walk(
-        types,
-        properties,
-        children,
-        bindings,
-        segments,
-        names,
-        index,
-        b,
-    );
-    let goal = target_walk(
-        types,
-        properties,
-        children,
-        bindings,
-        segments,
-        names,
-        index,
-        b,
-    );
-    path.fails
+    let path = binding_path(bindings, b);
+    let run = run_of(codes, path.first, path.count);
+    let fails = binding_codes(types, properties, &run, path.count);
+    let start = child_type(children, binding_child(bindings, b));
+    let end = end_of(properties, &run, start, path.count);
+    let goal = binding_target_path(bindings, b);
+    let goal_run = run_of(codes, goal.first, goal.count);
+    let goal_fails = target_codes(types, properties, &goal_run, goal.count);
+    let goal_start = child_type(children, binding_target(bindings, b));
+    let goal_end = end_of(properties, &goal_run, goal_start, goal.count);
+    fails
         | binding_again(bindings, segments, names, b)
         | target_under_set(children, bindings, b)
-        | goal.fails
-        | ends_apart(types, path.end, goal.end)
+        | goal_fails
+        | ends_apart(types, end, goal_end)
 }

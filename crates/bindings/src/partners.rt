@@ -1,18 +1,13 @@
 // Rule 17: partners.
 ghost use mathlib.Core.Path.{_≡_};
 ghost use mathlib.Core.List.{[]};
-ghost use mathlib.Core.Bool.{Bool, not, _&&_};
-ghost use Prim.Native.Nat.{ℕ, _≤_, _<_};
+ghost use mathlib.Core.Bool.{not, _&&_};
+ghost use Prim.Native.Nat.{_≤_, _<_};
 ghost use lib.ListN.{length};
 ghost use lib.Dec.{eqb};
-ghost use Rattle.lookup.specs.Index.{Indexed};
 ghost use Rattle.csdl.specs.Tables.{propertyPartner};
 ghost use Rattle.csdl.specs.Model.{modelOf, present};
-ghost use Rattle.csdl.specs.Path.{pathSteps, isProperty};
-ghost use Rattle.csdl.specs.Path.Kind.{partner};
-ghost use Rattle.csdl.specs.Paths.{lastStep, otherContained, property17};
-ghost use Rattle.trail.specs.Trail.{isCode};
-ghost use Rattle.bindings.specs.Partners.{partnerCodes, otherPartner, containedPartner, sharedContainment, partnerEnds};
+ghost use Rattle.bindings.specs.Partners.{partnerLast, partnerCodes, otherPartner, containedPartner, otherContains, sharedContainment, partnerEnds, partnerCoded};
 use lookup::bases::is_at;
 use lookup::bases::top;
 use paths::steps::StepTest;
@@ -27,27 +22,15 @@ use records::properties::property_owner;
 use records::properties::property_partner;
 use records::properties::property_type_ref;
 use trail::codes::last_code;
-use trail::resolve::trail_of;
+use trail::codes::run_of;
 
 // The code of the last step of the partner path of p; that of a cast where it has none.
-fn partner_code(
-    types: &[u8],
-    properties: &[u8],
-    segments: &[u8],
-    names: &[u8],
-    index: &[u16],
-    p: u16,
-) -> u32
-    requires { ⌜ (length (now types) ≤ 384) × (length (now properties) ≤ 3584) × Indexed (now properties) (now names) (now index) ⌝ }
-    ensures { λ r. ⌜ ((test : ℕ → Bool) → isCode test r ≡ isProperty test (lastStep (pathSteps (modelOf [] (now (types .entry)) (now (properties .entry)) [] [] [] [] (now (segments .entry)) (now (names .entry))) partner p))) ⌝ }
+fn partner_code(properties: &[u8], codes: &[u32], p: u16) -> u32
+    ensures { λ r. ⌜ r ≡ partnerLast (modelOf [] [] (now (properties .entry)) [] [] [] [] [] []) (now (codes .entry)) p ⌝ }
 {
-    let run = property_partner(properties, p);
-    let first = run.first;
-    let n = run.count;
-    let start = property_type_ref(properties, p);
-    let trail = trail_of(types, properties, segments, names, index, start, first, n);
-    let codes = trail.codes;
-    last_code(&codes, n)
+    let path = property_partner(properties, p);
+    let run = run_of(codes, path.first, path.count);
+    last_code(&run, path.count)
 }
 
 // Whether the partner path ends in no navigation property, or goes through one (17a, 17b).
@@ -60,23 +43,14 @@ fn partner_codes(types: &[u8], properties: &[u8], codes: &[u32], n: u16) -> bool
 }
 
 // Whether q has a partner other than p (17d).
-fn other_partner(
-    types: &[u8],
-    properties: &[u8],
-    segments: &[u8],
-    names: &[u8],
-    index: &[u16],
-    p: u16,
-    q: u16,
-) -> bool
-    requires { ⌜ (length (now types) ≤ 384) × (length (now properties) ≤ 3584) × Indexed (now properties) (now names) (now index) ⌝ }
-    ensures { λ r. ⌜ r ≡ otherPartner (modelOf [] (now (types .entry)) (now (properties .entry)) [] [] [] [] (now (segments .entry)) (now (names .entry))) p q ⌝ }
+fn other_partner(properties: &[u8], codes: &[u32], p: u16, q: u16) -> bool
+    ensures { λ r. ⌜ r ≡ otherPartner (modelOf [] [] (now (properties .entry)) [] [] [] [] [] []) (now (codes .entry)) p q ⌝ }
 {
-    let run = property_partner(properties, q);
-    if run.count == 0 {
+    let path = property_partner(properties, q);
+    if path.count == 0 {
         return false;
     }
-    let code = partner_code(types, properties, segments, names, index, q);
+    let code = partner_code(properties, codes, q);
     !((code < 32768) & (code == p as u32))
 }
 
@@ -104,17 +78,9 @@ fn other_with_partner(properties: &[u8], p: u16, q: u16) -> bool
 }
 
 // Whether q is another property of p's owner or an ancestor whose partner contains.
-fn other_contained(
-    types: &[u8],
-    properties: &[u8],
-    segments: &[u8],
-    names: &[u8],
-    index: &[u16],
-    p: u16,
-    q: u16,
-) -> bool
-    requires { ⌜ (length (now types) ≤ 384) × (length (now properties) ≤ 3584) × Indexed (now properties) (now names) (now index) ⌝ }
-    ensures { λ r. ⌜ r ≡ otherContained (modelOf [] (now (types .entry)) (now (properties .entry)) [] [] [] [] (now (segments .entry)) (now (names .entry))) p q ⌝ }
+fn other_contained(types: &[u8], properties: &[u8], codes: &[u32], p: u16, q: u16) -> bool
+    requires { ⌜ length (now types) ≤ 384 ⌝ }
+    ensures { λ r. ⌜ r ≡ otherContains (modelOf [] (now (types .entry)) (now (properties .entry)) [] [] [] [] [] []) (now (codes .entry)) p q ⌝ }
 {
     if !other_with_partner(properties, p, q) {
         return false;
@@ -126,7 +92,7 @@ fn other_contained(
     ) {
         return false;
     }
-    let code = partner_code(types, properties, segments, names, index, q);
+    let code = partner_code(properties, codes, q);
     if code >= 32768 {
         return false;
     }
@@ -134,17 +100,9 @@ fn other_contained(
 }
 
 // Whether q contains, as does the partner of another property of p's owner or an ancestor (17f).
-fn shared_containment(
-    types: &[u8],
-    properties: &[u8],
-    segments: &[u8],
-    names: &[u8],
-    index: &[u16],
-    p: u16,
-    q: u16,
-) -> bool
-    requires { ⌜ (length (now types) ≤ 384) × (length (now properties) ≤ 3584) × Indexed (now properties) (now names) (now index) ⌝ }
-    ensures { λ r. ⌜ r ≡ sharedContainment (modelOf [] (now (types .entry)) (now (properties .entry)) [] [] [] [] (now (segments .entry)) (now (names .entry))) p q ⌝ }
+fn shared_containment(types: &[u8], properties: &[u8], codes: &[u32], p: u16, q: u16) -> bool
+    requires { ⌜ (length (now types) ≤ 384) × (length (now properties) ≤ 3584) ⌝ }
+    ensures { λ r. ⌜ r ≡ sharedContainment (modelOf [] (now (types .entry)) (now (properties .entry)) [] [] [] [] [] []) (now (codes .entry)) p q ⌝ }
 {
     if !property_contains(properties, q) {
         return false;
@@ -152,7 +110,7 @@ fn shared_containment(
     let n = property_count(properties);
     let mut x: u16 = 0;
     while x < n {
-        if other_contained(types, properties, segments, names, index, p, x) {
+        if other_contained(types, properties, codes, p, x) {
             return true;
         }
         x += 1;
@@ -161,50 +119,31 @@ fn shared_containment(
 }
 
 // Whether p and the property q that its partner path leads to break rule 17 (17c to 17f).
-fn partner_ends(
-    types: &[u8],
-    properties: &[u8],
-    segments: &[u8],
-    names: &[u8],
-    index: &[u16],
-    p: u16,
-    q: u16,
-) -> bool
-    requires { ⌜ (length (now types) ≤ 384) × (length (now properties) ≤ 3584) × Indexed (now properties) (now names) (now index) ⌝ }
-    ensures { λ r. ⌜ r ≡ partnerEnds (modelOf [] (now (types .entry)) (now (properties .entry)) [] [] [] [] (now (segments .entry)) (now (names .entry))) p q ⌝ }
+fn partner_ends(types: &[u8], properties: &[u8], codes: &[u32], p: u16, q: u16) -> bool
+    requires { ⌜ (length (now types) ≤ 384) × (length (now properties) ≤ 3584) ⌝ }
+    ensures { λ r. ⌜ r ≡ partnerEnds (modelOf [] (now (types .entry)) (now (properties .entry)) [] [] [] [] [] []) (now (codes .entry)) p q ⌝ }
 {
     !is_at(
         types,
         property_type_ref(properties, q),
         property_owner(properties, p),
     )
-        | other_partner(types, properties, segments, names, index, p, q)
+        | other_partner(properties, codes, p, q)
         | contained_partner(types, properties, p, q)
-        | shared_containment(types, properties, segments, names, index, p, q)
+        | shared_containment(types, properties, codes, p, q)
 }
 
-// Whether property p breaks rule 17.
-pub fn property_17(
-    types: &[u8],
-    properties: &[u8],
-    segments: &[u8],
-    names: &[u8],
-    index: &[u16],
-    p: u16,
-) -> bool
-    requires { ⌜ (length (now types) ≤ 384) × (length (now properties) ≤ 3584) × Indexed (now properties) (now names) (now index) ⌝ }
-    ensures { λ r. ⌜ r ≡ property17 (modelOf [] (now (types .entry)) (now (properties .entry)) [] [] [] [] (now (segments .entry)) (now (names .entry))) p ⌝ }
+// Whether property p breaks rule 17, out of the codes of all segments.
+pub fn property_17(types: &[u8], properties: &[u8], codes: &[u32], p: u16) -> bool
+    requires { ⌜ (length (now types) ≤ 384) × (length (now properties) ≤ 3584) ⌝ }
+    ensures { λ r. ⌜ r ≡ partnerCoded (modelOf [] (now (types .entry)) (now (properties .entry)) [] [] [] [] [] []) (now (codes .entry)) p ⌝ }
 {
-    let run = property_partner(properties, p);
-    let first = run.first;
-    let n = run.count;
-    if n == 0 {
+    let path = property_partner(properties, p);
+    if path.count == 0 {
         return false;
     }
-    let start = property_type_ref(properties, p);
-    let trail = trail_of(types, properties, segments, names, index, start, first, n);
-    let codes = trail.codes;
-    let q = number_of(last_code(&codes, n));
-    partner_codes(types, properties, &codes, n)
-        | partner_ends(types, properties, segments, names, index, p, q)
+    let run = run_of(codes, path.first, path.count);
+    let q = number_of(last_code(&run, path.count));
+    partner_codes(types, properties, &run, path.count)
+        | partner_ends(types, properties, codes, p, q)
 }

@@ -1,4 +1,3 @@
-pub mod Fills
 pub mod Counts
 pub mod Named
 pub mod Frames

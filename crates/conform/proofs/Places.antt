@@ -7,7 +7,7 @@ use native.Mathlib.Nat.{add-zero, zero-add}
 use borrow.Author.Tests.{lt-ltb, le-ltb}
 use Rattle.csdl.specs.Search.{firstFrom, orElse}
 use Rattle.csdl.specs.Instance.{Instance, parts, partAt, onNode, onSlot, onItem}
-use Rattle.conform.specs.Tables.{further}
+use Rattle.runs.specs.Tables.{further}
 use Rattle.csdl.specs.declared.Part.{Part}
 use Rattle.csdl.specs.declared.Part.the-variants.{OfNode, OfSlot, OfItem}
 

@@ -1,4 +1,2 @@
-// Rules 21 to 25 of an instance.
-pub mod form;
+// Rules 22 to 25 of an instance: its records against the model.
 pub mod rules;
-pub mod runs;

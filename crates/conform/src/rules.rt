@@ -11,9 +11,8 @@ ghost use Rattle.csdl.specs.Model.{modelOf};
 ghost use Rattle.csdl.specs.Find.{isNameOf};
 ghost use Rattle.csdl.specs.Instance.{instanceOf, slotPropertyIn, slotCount, nodeCount, itemCount};
 ghost use Rattle.csdl.specs.Conforms.{node22, node23, slot24, slotOfItem, itemProperty, isNull, carriesNode, item25of, item25};
-ghost use Rattle.conform.specs.Tables.{Holding};
+ghost use Rattle.runs.specs.Tables.{Holding};
 ghost use Rattle.conform.specs.Parts.{unlikeAt};
-use crate::runs::slots_of_items;
 use lookup::bases::is_at;
 use lookup::index::index_of;
 use lookup::kinds::structured;
@@ -34,6 +33,7 @@ use records::properties::property_nullable;
 use records::properties::property_owner;
 use records::properties::property_type_ref;
 use records::types::type_abstract;
+use runs::runs::slots_of_items;
 
 // Rule 22.
 pub fn node_22(types: &[u8], nodes: &[u8], v: u16) -> bool

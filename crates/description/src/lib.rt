@@ -30,7 +30,7 @@ use records::types::type_schema;
 pub fn record(image: &[u8], names: &[u8], place: u16) {
     let rec = tables::record_at(image, place);
     head(image, rec);
-    named(model::name_record(image, place as u32));
+    named(naming::name_record(image, place as u32));
     owner(image, names, rec);
 }
 

@@ -1,4 +1,3 @@
 pub mod Chain
-pub mod Dots
 pub mod Frame
 pub mod Parts

@@ -1,8 +1,5 @@
-// Rules 1 to 7 of the model check: the image, spare bits, numbers within their tables, names.
+// Rules 1, 3 and 4 of the model check: the image, spare bits, numbers within their tables; and the record at a place.
 pub mod image;
-pub mod names;
 pub mod numbers;
 pub mod places;
-pub mod repeats;
-pub mod schemas;
 pub mod spare;

@@ -13,7 +13,7 @@ use Rattle.csdl.specs.Model.{Model, inRun}
 use Rattle.csdl.specs.Find.{integral}
 use Rattle.csdl.specs.Instance.{Instance, instanceOf}
 use Rattle.csdl.specs.Conforms.{isNull, itemProperty, nodeOfItem, nodeOfSlot, holdsItem, holdsNode, node26}
-use Rattle.conform.specs.Tables.{Holding, toTwo}
+use Rattle.runs.specs.Tables.{Holding, toTwo}
 use Rattle.conform.proofs.Anys.{any-same, count-same, tab-same, first-le}
 use Rattle.conform.proofs.Places.{first-same}
 use Rattle.csdl.specs.Conforms.{slotOfItem}
@@ -21,7 +21,7 @@ use Rattle.csdl.specs.Instance.{slotCount}
 use lib.ListN.{set}
 use lib.Seq.{getD-set-same, getD-set-other}
 use borrow.Author.Count.{below-more}
-use Rattle.conform.proofs.Fills.{latest}
+use Rattle.runs.proofs.Fills.{latest}
 use Rattle.instance.proofs.Climbing.{run-any, run-one}
 use Rattle.instance.specs.Graph.{heldBy, stepIn, timesIn, holderFrom, withinIn, node26In, leaves, stepsTo, heldRun, leavingRun}
 

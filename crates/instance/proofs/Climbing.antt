@@ -10,7 +10,7 @@ use lib.ListN.{getD}
 use borrow.Author.Tests.{eqb-true, eq-eqb, ltb-true, ltb-false, leb-true, lt-ltb, le-ltb, le-leb}
 use Rattle.csdl.specs.Search.{anyFrom, sumFrom, countFrom, mark}
 use Rattle.csdl.specs.Climb.{climb, rounds, reaches}
-use Rattle.conform.specs.Tables.{Holding, toTwo}
+use Rattle.runs.specs.Tables.{Holding, toTwo}
 use Rattle.conform.proofs.Anys.{bool-iff, and-left, and-right, and-both, any-of, any-found, any-same, tab-at}
 use Rattle.instance.specs.Graph.{stepIn, timesIn, holderFrom, withinIn}
 

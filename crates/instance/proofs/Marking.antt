@@ -10,8 +10,8 @@ use lib.ListN.{length, getD, replicate}
 use borrow.Author.Tests.{eqb-true, eqb-false, eq-eqb, not-true}
 use Rattle.csdl.specs.Search.{anyFrom, mark}
 use Rattle.csdl.specs.Climb.{rounds, reaches}
-use Rattle.conform.specs.Tables.{Holding, Changed}
-use Rattle.conform.proofs.Fills.{zeros}
+use Rattle.runs.specs.Tables.{Holding, Changed}
+use Rattle.runs.proofs.Fills.{zeros}
 use Rattle.conform.proofs.Anys.{bool-iff, and-left, and-right, and-both, any-of, any-found, any-same, tab-at}
 use Rattle.instance.specs.Graph.{stepIn, withinIn, stepsTo, leaves}
 use Rattle.instance.proofs.Climbing.{less-one, run-any}

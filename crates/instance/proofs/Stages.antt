@@ -14,7 +14,7 @@ use Rattle.csdl.specs.Verdict.Answer.{refused}
 use Rattle.csdl.specs.Verdict.Stage.{each}
 use Rattle.csdl.specs.declared.Part.{Part}
 use Rattle.csdl.specs.declared.Part.the-variants.{OfNode, OfSlot, OfItem, Outside}
-use Rattle.conform.specs.Tables.{further}
+use Rattle.runs.specs.Tables.{further}
 use Rattle.conform.proofs.Places.{first-part, nodes-only, slots-only, items-only}
 
 -- A rule that is broken; one that is kept.

@@ -9,11 +9,8 @@ ghost use Rattle.csdl.specs.Instance.{instanceOf, nodeCount, slotCount, itemCou
 ghost use Rattle.csdl.specs.Conforms.{slot24, item25, sited, rule21, instanceStages};
 ghost use Rattle.csdl.specs.Verdict.{verdict, instanceMeans};
 ghost use Rattle.csdl.specs.Verdict.Answer.{accepted};
-ghost use Rattle.conform.specs.Tables as tables;
+ghost use Rattle.runs.specs.Tables as tables;
 use crate::holding::first_26;
-use conform::form::first_item_21;
-use conform::form::first_node_21;
-use conform::form::first_slot_21;
 use conform::rules::first_22;
 use conform::rules::first_23;
 use conform::rules::first_24;
@@ -21,6 +18,9 @@ use conform::rules::first_25;
 use csdl::InstanceAnswer;
 use nodes::fields::node_count;
 use nodes::fields::slot_count;
+use runs::form::first_item_21;
+use runs::form::first_node_21;
+use runs::form::first_slot_21;
 
 // The first place that breaks rule 21: 0 for none, else the place and 1.
 fn place_21(types: &[u8], properties: &[u8], nodes: &[u8], slots: &[u8], items: &[u8]) -> u16

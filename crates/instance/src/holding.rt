@@ -10,20 +10,20 @@ ghost use Rattle.csdl.specs.Climb as climb;
 ghost use Rattle.csdl.specs.Model.{modelOf};
 ghost use Rattle.csdl.specs.Instance.{instanceOf, nodeCount, itemCount};
 ghost use Rattle.csdl.specs.Conforms.{slotOfItem, nodeOfSlot, nodeOfItem, itemProperty, node26};
-ghost use Rattle.conform.specs.Tables.{Holding, toTwo};
+ghost use Rattle.runs.specs.Tables.{Holding, toTwo};
 ghost use Rattle.instance.specs.Graph as graph;
 use conform::rules::is_null;
 use conform::rules::item_property;
 use conform::rules::mark;
-use conform::runs::add_run;
-use conform::runs::nodes_of_slots;
-use conform::runs::put_run;
-use conform::runs::slots_of_items;
 use lookup::steps::integral;
 use nodes::fields::item_count;
 use nodes::fields::item_handle;
 use nodes::fields::node_count;
 use records::fields::less_one;
+use runs::runs::add_run;
+use runs::runs::nodes_of_slots;
+use runs::runs::put_run;
+use runs::runs::slots_of_items;
 
 // Entry k of an array, or 0 past the end.
 fn read_at(array: &[u16], k: u16) -> u16

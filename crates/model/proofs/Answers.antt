@@ -13,8 +13,11 @@ use Rattle.csdl.specs.declared.ModelAnswer.{ModelAnswer}
 use Rattle.csdl.specs.declared.ModelAnswer.the-variants.{Accepted, Refused}
 use Rattle.csdl.proofs.Verdicts.{model-then-accepts}
 use Rattle.form.proofs.Parts.{layout, counts}
-use Rattle.resolution.specs.Written.{Resolvable}
-use Rattle.resolution.proofs.Whole.{resolvable}
+use Rattle.segments.specs.Kept.{Resolvable}
+use Rattle.segments.proofs.Resolving.{resolvable}
+use Rattle.trail.specs.Coded.{Coded}
+use Rattle.resolution.specs.Written.{codeBytes}
+use Rattle.resolution.proofs.Whole.{codes-resolution}
 
 -- What follows rules 3 to 19 in the check.
 abbrev counted : List ℕ → Answer
@@ -78,16 +81,20 @@ module _ (image buffer : List ℕ) where
       unfolding modelMeans
       answer-accepted s e out w = (sym rules, w ∙ written (s ∷ []) (rules ∙ rw e))
 
--- A model that is accepted has a resolution, and a buffer that keeps rule 2 has room for it.
-module _ (image : List ℕ) (good : image1 image ≡ false) where
-  pub can-resolve : (r : ModelAnswer) (s : ℕ) → modelMeans r ≡ modelVerdict (modelIn image) (counted image) → r ≡ Accepted s → Resolvable (modelIn image)
+-- What is written of a model that is accepted is its resolution, and a buffer that keeps rule 2 has room for it.
+module _ (image : List ℕ) (good : image1 image ≡ false) (h : ℕ) (e : h ≡ header image 8) where
+  count-is : h ≡ modelIn image .segments
+  count-is = let k = counts image (layout image good) in omega (arith, k .segments)
+
+  can-resolve : (r : ModelAnswer) (s : ℕ) → modelMeans r ≡ modelVerdict (modelIn image) (counted image) → r ≡ Accepted s → Resolvable (modelIn image)
   unfolding modelMeans
-  can-resolve r s means e =
-      let v : modelThen image (counted image) ≡ accepted (s ∷ []) = then-good image (counted image) good ∙ (sym means ∙ rw e) in
+  can-resolve r s means a =
+      let v : modelThen image (counted image) ≡ accepted (s ∷ []) = then-good image (counted image) good ∙ (sym means ∙ rw a) in
       let p = model-then-accepts image (counted image) (s ∷ []) .0 v .0 in
       let l = layout image good in
       let n = counts image l in
-      resolvable (modelIn image) (p .model-kept) (omega (arith, n .types, l .types)) (omega (arith, n .properties, l .properties))
+      resolvable (modelIn image) (p .model-kept .kept4) (p .model-kept .kept13) (omega (arith, n .types, l .types)) (omega (arith, n .properties, l .properties))
 
-  pub has-room : (h n : ℕ) → h ≡ header image 8 → 2 * h ≤ n → 2 * modelIn image .segments ≤ n
-  has-room h n e q = let k = counts image (layout image good) in omega (arith, k .segments)
+  pub written-codes : (r : ModelAnswer) (s : ℕ) → modelMeans r ≡ modelVerdict (modelIn image) (counted image) → r ≡ Accepted s → (codes : List ℕ) → Coded (modelIn image) codes
+      → (buffer : List ℕ) → codeBytes codes h ++ drop (2 * h) buffer ≡ resolution (modelIn image) ++ drop (2 * modelIn image .segments) buffer
+  written-codes r s means a codes c buffer = rw (count-is, codes-resolution (modelIn image) (can-resolve r s means a) codes c)

@@ -4,10 +4,11 @@ use mathlib.Core.List.{List}
 use mathlib.Core.Bool.{Bool, cond, not, _&&_, _||_}
 use lib.ListN.{getD}
 use Rattle.csdl.specs.Search.{anyFrom}
+use Rattle.csdl.specs.Tables.{Run}
 use Rattle.csdl.specs.Model.{Model}
-use Rattle.csdl.specs.Path.{stepsOf}
-use Rattle.csdl.specs.Paths.{hasCast, lastProperty, constraintPath, sameShape, bothComplex}
-use Rattle.trail.specs.Trail.{castCode, prefix}
+use Rattle.csdl.specs.Paths.{sameShape, bothComplex}
+use Rattle.trail.specs.Trail.{castCode, lastCode, numberOf}
+use Rattle.trail.specs.Coded.{runOf}
 use Rattle.paths.specs.declared.steps.StepTest.the-variants.{NoConstraintStep, Navigates}
 use Rattle.paths.specs.Steps.{stepOrEnd}
 
@@ -27,9 +28,15 @@ constraintEnds m p d r = not (m .navigation p) || m .collection p || otherShape 
 unfoldable pub constraintCodes : Model → List ℕ → ℕ → Bool
 constraintCodes m codes n = anyFrom (λ k. castCode (getD codes k 0)) 0 n || stepOrEnd m NoConstraintStep Navigates codes n
 
--- The same of the path of n segments from `first` on, from type `start`; its last property.
-unfoldable pub constraintFails : Model → ℕ → ℕ → ℕ → Bool
-constraintFails m start first n = let l = stepsOf m start (prefix m first n) in hasCast l || constraintPath m l
+-- The same of a path, by the codes of all segments; its last property.
+unfoldable pub constraintFails : Model → List ℕ → Run → Bool
+constraintFails m codes p = constraintCodes m (runOf codes (p .first) (p .count)) (p .count)
 
-unfoldable pub constraintEnd : Model → ℕ → ℕ → ℕ → ℕ
-constraintEnd m start first n = lastProperty (stepsOf m start (prefix m first n))
+unfoldable pub constraintEnd : List ℕ → Run → ℕ
+constraintEnd codes p = numberOf (lastCode (runOf codes (p .first) (p .count)) (p .count))
+
+-- Rule 16 of constraint c, by the codes of all segments.
+unfoldable pub constraintCoded : Model → List ℕ → ℕ → Bool
+constraintCoded m codes c =
+    constraintFails m codes (m .dependent c) || constraintFails m codes (m .principal c)
+    || constraintEnds m (m .constrained c) (constraintEnd codes (m .dependent c)) (constraintEnd codes (m .principal c))

@@ -4,10 +4,11 @@ ghost use mathlib.Core.List.{[]};
 ghost use mathlib.Core.Bool.{cond, not};
 ghost use Prim.Native.Nat.{_≤_, _<_};
 ghost use lib.ListN.{length};
-ghost use Rattle.lookup.specs.Index.{Indexed};
 ghost use Rattle.csdl.specs.Model.{modelOf};
-ghost use Rattle.csdl.specs.Paths.{sameShape, bothComplex, constraint16};
-ghost use Rattle.paths.specs.Constraints.{otherNullable, constraintEnds, constraintCodes, constraintFails, constraintEnd};
+ghost use Rattle.csdl.specs.Paths.{sameShape, bothComplex};
+ghost use Rattle.trail.specs.Trail.{lastCode, numberOf};
+ghost use Rattle.trail.specs.Coded.{runOf};
+ghost use Rattle.paths.specs.Constraints.{otherNullable, constraintEnds, constraintCodes, constraintCoded};
 use crate::steps::StepTest;
 use crate::steps::number_of;
 use crate::steps::step_or_end;
@@ -18,11 +19,10 @@ use records::constraints::constraint_property;
 use records::properties::property_collection;
 use records::properties::property_navigation;
 use records::properties::property_nullable;
-use records::properties::property_owner;
 use records::properties::property_type_ref;
 use trail::codes::has_cast;
 use trail::codes::last_code;
-use trail::resolve::trail_of;
+use trail::codes::run_of;
 
 // b where a is true, the opposite where it is not.
 fn alike(a: bool, b: bool) -> bool
@@ -91,68 +91,38 @@ fn constraint_codes(types: &[u8], properties: &[u8], codes: &[u32], n: u16) -> b
         )
 }
 
-// A path of a constraint: whether it has a cast or a step that it may not have, and its last property.
+// A path of a constraint, by the codes of all segments: whether it has a cast or a step that it may not have, and its last property.
 struct Walk {
     fails: bool,
     end: u16,
 }
 
-fn constraint_walk(
-    types: &[u8],
-    properties: &[u8],
-    segments: &[u8],
-    names: &[u8],
-    index: &[u16],
-    start: u16,
-    first: u16,
-    n: u16,
-) -> Walk
-    requires { ⌜ (length (now types) ≤ 384) × (length (now properties) ≤ 3584) × (first < 2048) × (n < 16) × Indexed (now properties) (now names) (now index) ⌝ }
-    ensures { λ w. ⌜ w .fails ≡ constraintFails (modelOf [] (now (types .entry)) (now (properties .entry)) [] [] [] [] (now (segments .entry)) (now (names .entry))) start first n ⌝ }
-    ensures { λ w. ⌜ w .end ≡ constraintEnd (modelOf [] (now (types .entry)) (now (properties .entry)) [] [] [] [] (now (segments .entry)) (now (names .entry))) start first n ⌝ }
+fn constraint_walk(types: &[u8], properties: &[u8], codes: &[u32], first: u16, n: u16) -> Walk
+    requires { ⌜ (length (now types) ≤ 384) × (first < 2048) × (n < 16) ⌝ }
+    ensures { λ w. ⌜ w .fails ≡ constraintCodes (modelOf [] (now (types .entry)) (now (properties .entry)) [] [] [] [] [] []) (runOf (now (codes .entry)) first n) n ⌝ }
+    ensures { λ w. ⌜ w .end ≡ numberOf (lastCode (runOf (now (codes .entry)) first n) n) ⌝ }
 {
-    let trail = trail_of(types, properties, segments, names, index, start, first, n);
-    let codes = trail.codes;
-    let fails = constraint_codes(types, properties, &codes, n);
-    let end = number_of(last_code(&codes, n));
+    let run = run_of(codes, first, n);
+    let fails = constraint_codes(types, properties, &run, n);
+    let end = number_of(last_code(&run, n));
     Walk { fails, end }
 }
 
-// Whether constraint c breaks rule 16.
+// Whether constraint c breaks rule 16, by the codes of all segments.
 pub fn constraint_16(
     types: &[u8],
     properties: &[u8],
     constraints: &[u8],
-    segments: &[u8],
-    names: &[u8],
-    index: &[u16],
+    codes: &[u32],
     c: u16,
 ) -> bool
-    requires { ⌜ (length (now types) ≤ 384) × (length (now properties) ≤ 3584) × Indexed (now properties) (now names) (now index) ⌝ }
-    ensures { λ r. ⌜ r ≡ constraint16 (modelOf [] (now (types .entry)) (now (properties .entry)) [] (now (constraints .entry)) [] [] (now (segments .entry)) (now (names .entry))) c ⌝ }
+    requires { ⌜ length (now types) ≤ 384 ⌝ }
+    ensures { λ r. ⌜ r ≡ constraintCoded (modelOf [] (now (types .entry)) (now (properties .entry)) [] (now (constraints .entry)) [] [] [] []) (now (codes .entry)) c ⌝ }
 {
     let p = constraint_property(constraints, c);
     let dependent = constraint_dependent(constraints, c);
-    let d = constraint_walk(
-        types,
-        properties,
-        segments,
-        names,
-        index,
-        property_owner(properties, p),
-        dependent.first,
-        dependent.count,
-    );
+    let d = constraint_walk(types, properties, codes, dependent.first, dependent.count);
     let principal = constraint_principal(constraints, c);
-    let r = constraint_walk(
-        types,
-        properties,
-        segments,
-        names,
-        index,
-        property_type_ref(properties, p),
-        principal.first,
-        principal.count,
-    );
+    let r = constraint_walk(types, properties, codes, principal.first, principal.count);
     d.fails | r.fails | constraint_ends(types, properties, p, d.end, r.end)
 }

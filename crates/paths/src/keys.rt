@@ -1,13 +1,12 @@
 // Rule 15: keys.
 ghost use mathlib.Core.Path.{_≡_};
 ghost use mathlib.Core.List.{[]};
-ghost use mathlib.Core.Bool.{_||_};
 ghost use Prim.Native.Nat.{_≤_, _<_};
 ghost use lib.ListN.{length};
 ghost use Rattle.lookup.specs.Index.{Indexed};
 ghost use Rattle.csdl.specs.Model.{modelOf};
-ghost use Rattle.csdl.specs.Paths.{keyName, key15b, key15c, key15d, key15e, key15f, key15g, key15h, key15};
-ghost use Rattle.paths.specs.Keys.{againNamed};
+ghost use Rattle.csdl.specs.Paths.{keyName, key15b, key15f, key15g, key15h};
+ghost use Rattle.paths.specs.Keys.{againNamed, keyCodes, keyCoded};
 use crate::steps::StepTest;
 use crate::steps::step_or_end;
 use lines::bases::ancestors_of;
@@ -21,7 +20,7 @@ use records::keys::key_alias;
 use records::keys::key_owner;
 use records::keys::key_path;
 use trail::codes::has_cast;
-use trail::resolve::trail_of;
+use trail::codes::run_of;
 
 // Whether an ancestor of the owner has keys (15b).
 pub fn key_above(types: &[u8], keys: &[u8], k: u16) -> bool
@@ -31,40 +30,21 @@ pub fn key_above(types: &[u8], keys: &[u8], k: u16) -> bool
     key_in(keys, ancestors_of(types, key_owner(keys, k)))
 }
 
-// Whether the path has a cast, or a step that it may not have (15c to 15e).
-pub fn key_walk(
-    types: &[u8],
-    properties: &[u8],
-    keys: &[u8],
-    segments: &[u8],
-    names: &[u8],
-    index: &[u16],
-    k: u16,
-) -> bool
-    requires { ⌜ (length (now types) ≤ 384) × (length (now properties) ≤ 3584) × Indexed (now properties) (now names) (now index) ⌝ }
-    ensures { λ r. ⌜ r ≡ (key15c (modelOf [] (now (types .entry)) (now (properties .entry)) (now (keys .entry)) [] [] [] (now (segments .entry)) (now (names .entry))) k || (key15d (modelOf [] (now (types .entry)) (now (properties .entry)) (now (keys .entry)) [] [] [] (now (segments .entry)) (now (names .entry))) k || key15e (modelOf [] (now (types .entry)) (now (properties .entry)) (now (keys .entry)) [] [] [] (now (segments .entry)) (now (names .entry))) k)) ⌝ }
+// Whether the path has a cast, or a step that it may not have (15c to 15e), by the codes of all segments.
+pub fn key_walk(types: &[u8], properties: &[u8], keys: &[u8], codes: &[u32], k: u16) -> bool
+    requires { ⌜ length (now types) ≤ 384 ⌝ }
+    ensures { λ r. ⌜ r ≡ keyCodes (modelOf [] (now (types .entry)) (now (properties .entry)) (now (keys .entry)) [] [] [] [] []) (now (codes .entry)) k ⌝ }
 {
-    let run = key_path(keys, k);
-    let first = run.first;
-    let n = run.count;
-    let trail = trail_of(
-        types,
-        properties,
-        segments,
-        names,
-        index,
-        key_owner(keys, k),
-        first,
-        n,
-    );
-    let codes = trail.codes;
-    has_cast(&codes, n)
+    let path = key_path(keys, k);
+    let n = path.count;
+    let run = run_of(codes, path.first, n);
+    has_cast(&run, n)
         | step_or_end(
             types,
             properties,
             StepTest::NoKeyStep,
             StepTest::NoKeyEnd,
-            &codes,
+            &run,
             n,
         )
 }
@@ -147,7 +127,7 @@ pub fn key_alias_found(
         != 0
 }
 
-// Whether key k breaks rule 15.
+// Whether key k breaks rule 15, by the codes of all segments.
 pub fn key_15(
     types: &[u8],
     properties: &[u8],
@@ -155,14 +135,15 @@ pub fn key_15(
     segments: &[u8],
     names: &[u8],
     index: &[u16],
+    codes: &[u32],
     k: u16,
 ) -> bool
     requires { ⌜ (length (now types) ≤ 384) × (length (now properties) ≤ 3584) × (length (now keys) ≤ 768) × Indexed (now properties) (now names) (now index) ⌝ }
-    ensures { λ r. ⌜ r ≡ key15 (modelOf [] (now (types .entry)) (now (properties .entry)) (now (keys .entry)) [] [] [] (now (segments .entry)) (now (names .entry))) k ⌝ }
+    ensures { λ r. ⌜ r ≡ keyCoded (modelOf [] (now (types .entry)) (now (properties .entry)) (now (keys .entry)) [] [] [] (now (segments .entry)) (now (names .entry))) (now (codes .entry)) k ⌝ }
 {
     !of_kind(types, 0, key_owner(keys, k))
         | key_above(types, keys, k)
-        | key_walk(types, properties, keys, segments, names, index, k)
+        | key_walk(types, properties, keys, codes, k)
         | key_alias_form(keys, k)
         | key_named(keys, segments, names, k)
         | key_alias_found(types, properties, keys, names, index, k)

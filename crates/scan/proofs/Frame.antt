@@ -1,47 +1,37 @@
 -- A rule at the tables that it reads, as the same rule at all nine. Assumes nothing.
-use Prim.Native.Nat.{ℕ, _+_}
-use mathlib.Core.Path.{_≡_, refl, fun-ext, _∙_}
-use mathlib.Core.List.{List, [], _∷_}
-use mathlib.Core.Bool.{Bool}
+use Prim.Native.Nat.{ℕ, _+_, _≤_, _<_}
+use mathlib.Core.Path.{_≡_, refl, sym, fun-ext, _∙_}
+use mathlib.Core.List.{List, []}
+use mathlib.Core.Bool.{Bool, true, false}
+use native.Mathlib.Omega.{arith}
+use lib.Dec.{eqb}
+use borrow.Author.Tests.{eqb-true, eqb-false}
 use Rattle.csdl.specs.Search.{firstFrom}
 use Rattle.csdl.specs.Tables.{schemaCount, typeCount, propertyCount, keyCount, constraintCount, childCount, bindingCount, segmentCount}
-use Rattle.csdl.specs.Model.{Model, modelOf}
-use Rattle.csdl.specs.Find.{ofKind, structured, find, own, declares, isAt, ancestor, top, complexStep, containStep, hasKey}
-use Rattle.csdl.specs.Path.{Segment, Step, segmentAt, resolvesAt, movesTo, stepAt, pathOf, startOf, holders, holding}
-use Rattle.csdl.specs.Path.Segment.{name, cast}
-use Rattle.csdl.specs.Form.{schema6, sharesName, namesSchema, type7a, sameType, child7b}
-use Rattle.csdl.specs.Properties.{property11, type12}
-use Rattle.csdl.specs.Paths.{segment13, segment14, stuck, stuckIn, keyType, keyStep, keyEnd, keyName, key15b, key15c, key15g, key15, constraintStep, constraintPath, constraint16b, constraint16cd, sameShape, bothComplex, constraint16, otherContained, property17, property18a, child18, crosses, bindingForm, binding19d, targetStep, targetForm, binding19}
-use Rattle.typing.proofs.Frame.{property-11-frame, type-12-frame}
-use Rattle.scan.specs.Rows.{shifted}
-use Rattle.scan.specs.Stages.{ruleNo, lowestPlace}
-use Rattle.scan.proofs.Tables.{types-placed, properties-placed, segments-placed}
+use Rattle.csdl.specs.Model.{Model, modelOf, places, recordAt, onType}
+use Rattle.csdl.specs.Path.{pathOf, holders, holding}
+use Rattle.csdl.specs.Form.{schema6, sharesName, namesSchema, type7a, sameType, child7b, rule7}
+use Rattle.csdl.specs.Types.{type8, type9}
+use Rattle.csdl.specs.Properties.{property10, property11, type12}
+use Rattle.csdl.specs.Paths.{segment13}
+use Rattle.typing.proofs.Frame.{type-8-frame, type-9-frame, property-10-frame, property-11-frame}
+use Rattle.required.proofs.Frame.{type-12-frame}
+use Rattle.places.specs.Shifted.{shifted}
+use Rattle.places.specs.Stages.{formRule, ruleNo, lowestPlace}
+use Rattle.places.proofs.Tables.{schemas-placed, types-placed, properties-placed, children-placed, segments-placed, type-first, type-child}
+use Rattle.scan.specs.declared.rows.TableRule.{TableRule}
+use Rattle.scan.specs.declared.rows.TableRule.the-variants.{Schema6, Type7, Child7, Type8, Type9, Property10}
+use Rattle.scan.specs.Rows.{rowTest}
 
--- What a segment resolves to, as functions: they read types, properties and names.
-module _ (ty pr nm s1 k1 c1 h1 b1 g1 s2 k2 c2 h2 b2 g2 : List ℕ) where
-  resolves-at : (u : ℕ) (g : Segment) → resolvesAt (modelOf s1 ty pr k1 c1 h1 b1 g1 nm) u g ≡ resolvesAt (modelOf s2 ty pr k2 c2 h2 b2 g2 nm) u g
-  unfolding modelOf resolvesAt structured isAt ancestor find own declares
-  resolves-at u (name x) = refl
-  resolves-at u (cast c) = refl
-
-  pub resolves-same : _≡_ {A = ℕ → Segment → Bool} (λ u g. resolvesAt (modelOf s1 ty pr k1 c1 h1 b1 g1 nm) u g) (λ u g. resolvesAt (modelOf s2 ty pr k2 c2 h2 b2 g2 nm) u g)
-  resolves-same = fun-ext (λ u. fun-ext (λ g. resolves-at u g))
-
-  moves-to : (u : ℕ) (g : Segment) → movesTo (modelOf s1 ty pr k1 c1 h1 b1 g1 nm) u g ≡ movesTo (modelOf s2 ty pr k2 c2 h2 b2 g2 nm) u g
-  unfolding modelOf movesTo find own declares
-  moves-to u (name x) = refl
-  moves-to u (cast c) = refl
-
-  pub moves-same : _≡_ {A = ℕ → Segment → ℕ} (λ u g. movesTo (modelOf s1 ty pr k1 c1 h1 b1 g1 nm) u g) (λ u g. movesTo (modelOf s2 ty pr k2 c2 h2 b2 g2 nm) u g)
-  moves-same = fun-ext (λ u. fun-ext (λ g. moves-to u g))
-
-  step-at : (u : ℕ) (g : Segment) → stepAt (modelOf s1 ty pr k1 c1 h1 b1 g1 nm) u g ≡ stepAt (modelOf s2 ty pr k2 c2 h2 b2 g2 nm) u g
-  unfolding modelOf stepAt find own declares
-  step-at u (name x) = refl
-  step-at u (cast c) = refl
-
-  pub steps-same : _≡_ {A = ℕ → Segment → Step} (λ u g. stepAt (modelOf s1 ty pr k1 c1 h1 b1 g1 nm) u g) (λ u g. stepAt (modelOf s2 ty pr k2 c2 h2 b2 g2 nm) u g)
-  steps-same = fun-ext (λ u. fun-ext (λ g. step-at u g))
+-- Rules 3 to 5 by their numbers.
+pub form-rules : (m : Model) (n : ℕ) → 3 ≤ n → n < 6 → lowestPlace m (formRule n) ≡ lowestPlace m (ruleNo n)
+unfolding lowestPlace formRule ruleNo
+form-rules m n a b = go (eqb n 3) refl (eqb n 4) refl
+  where
+    go : (x : Bool) → eqb n 3 ≡ x → (y : Bool) → eqb n 4 ≡ y → lowestPlace m (formRule n) ≡ lowestPlace m (ruleNo n)
+    go true e y f = let z = eqb-true n 3 e in rw z
+    go false e true f = let z = eqb-true n 4 f in rw z
+    go false e false f = let z : n ≡ 5 = omega (arith, eqb-false n 3 e, eqb-false n 4 f) in rw z
 
 module _ (sc ty pr ke co ch bi sg nm : List ℕ) where
   pub schema-6-frame : (s : ℕ) → schema6 (modelOf sc [] [] [] [] [] [] [] nm) s ≡ schema6 (modelOf sc ty pr ke co ch bi sg nm) s
@@ -60,46 +50,41 @@ module _ (sc ty pr ke co ch bi sg nm : List ℕ) where
   unfolding modelOf segment13 holding holders pathOf
   segment-13-frame g = refl
 
-  pub segment-14-frame : (g : ℕ) → segment14 (modelOf [] ty pr ke co ch bi sg nm) g ≡ segment14 (modelOf sc ty pr ke co ch bi sg nm) g
-  unfolding modelOf segment14 stuck stuckIn segmentAt holders pathOf startOf
-  segment-14-frame g = simp (resolves-same ty pr nm [] ke co ch bi sg sc ke co ch bi sg, moves-same ty pr nm [] ke co ch bi sg sc ke co ch bi sg)
+-- the rows of one table
+module _ (sc ty pr ke co ch bi sg nm : List ℕ) where
+  row-frame : (rule : TableRule) (k : ℕ) → rowTest (modelOf sc ty pr [] [] ch [] [] nm) rule k ≡ rowTest (modelOf sc ty pr ke co ch bi sg nm) rule k
+  unfolding rowTest
+  row-frame Schema6 k = sym (schema-6-frame sc ty pr [] [] ch [] [] nm k) ∙ schema-6-frame sc ty pr ke co ch bi sg nm k
+  row-frame Type7 k = sym (type-7-frame sc ty pr [] [] ch [] [] nm k) ∙ type-7-frame sc ty pr ke co ch bi sg nm k
+  row-frame Child7 k = sym (child-7-frame sc ty pr [] [] ch [] [] nm k) ∙ child-7-frame sc ty pr ke co ch bi sg nm k
+  row-frame Type8 k = sym (type-8-frame sc ty pr [] [] ch [] [] nm k) ∙ type-8-frame sc ty pr ke co ch bi sg nm k
+  row-frame Type9 k = sym (type-9-frame sc ty pr [] [] ch [] [] nm k) ∙ type-9-frame sc ty pr ke co ch bi sg nm k
+  row-frame Property10 k = sym (property-10-frame sc ty pr [] [] ch [] [] nm k) ∙ property-10-frame sc ty pr ke co ch bi sg nm k
 
-  pub key-15-frame : (k : ℕ) → key15 (modelOf [] ty pr ke [] [] [] sg nm) k ≡ key15 (modelOf sc ty pr ke co ch bi sg nm) k
-  unfolding modelOf key15 key15b key15c key15g keyName keyStep keyEnd keyType complexStep ofKind find own declares ancestor segmentAt pathOf startOf
-  key-15-frame k = simp (steps-same ty pr nm [] ke [] [] [] sg sc ke co ch bi sg, moves-same ty pr nm [] ke [] [] [] sg sc ke co ch bi sg)
-
-  pub constraint-16-frame : (c : ℕ) → constraint16 (modelOf [] ty pr [] co [] [] sg nm) c ≡ constraint16 (modelOf sc ty pr ke co ch bi sg nm) c
-  unfolding modelOf constraint16 constraint16b constraint16cd constraintPath constraintStep sameShape bothComplex complexStep ofKind segmentAt pathOf startOf
-  constraint-16-frame c = simp (steps-same ty pr nm [] [] co [] [] sg sc ke co ch bi sg, moves-same ty pr nm [] [] co [] [] sg sc ke co ch bi sg)
-
-  pub property-17-frame : (p : ℕ) → property17 (modelOf [] ty pr [] [] [] [] sg nm) p ≡ property17 (modelOf sc ty pr ke co ch bi sg nm) p
-  unfolding modelOf property17 otherContained isAt ancestor top segmentAt pathOf startOf
-  property-17-frame p = simp (steps-same ty pr nm [] [] [] [] [] sg sc ke co ch bi sg, moves-same ty pr nm [] [] [] [] [] sg sc ke co ch bi sg)
-
-  pub property-18-frame : (p : ℕ) → property18a (modelOf [] ty pr ke [] [] [] [] []) p ≡ property18a (modelOf sc ty pr ke co ch bi sg nm) p
-  unfolding modelOf property18a hasKey isAt ancestor
-  property-18-frame p = refl
-
-  pub child-18-frame : (h : ℕ) → child18 (modelOf [] ty [] ke [] ch [] [] []) h ≡ child18 (modelOf sc ty pr ke co ch bi sg nm) h
-  unfolding modelOf child18 hasKey ofKind isAt ancestor
-  child-18-frame h = refl
-
-  form-same : (test : ℕ → Bool) (l : List ℕ) → bindingForm (modelOf [] ty pr [] [] ch bi sg nm) test l ≡ bindingForm (modelOf sc ty pr ke co ch bi sg nm) test l
-  unfolding modelOf bindingForm crosses
-  form-same test [] = refl
-  form-same test (p ∷ l) = refl
-
-  target-same : (l : List Step) → targetForm (modelOf [] ty pr [] [] ch bi sg nm) l ≡ targetForm (modelOf sc ty pr ke co ch bi sg nm) l
-  unfolding modelOf targetForm targetStep complexStep containStep ofKind
-  target-same [] = refl
-  target-same (s ∷ l) = refl
-
-  pub binding-19-frame : (b : ℕ) → binding19 (modelOf [] ty pr [] [] ch bi sg nm) b ≡ binding19 (modelOf sc ty pr ke co ch bi sg nm) b
-  unfolding modelOf binding19 binding19d crosses isAt ancestor segmentAt pathOf startOf
-  binding-19-frame b = simp (form-same, target-same, steps-same ty pr nm [] [] [] ch bi sg sc ke co ch bi sg, moves-same ty pr nm [] [] [] ch bi sg sc ke co ch bi sg)
+  pub row-found : (rule : TableRule) {r : ℕ} (a n : ℕ) → r ≡ shifted a (firstFrom (rowTest (modelOf sc ty pr [] [] ch [] [] nm) rule) 0 n)
+      → r ≡ shifted a (firstFrom (rowTest (modelOf sc ty pr ke co ch bi sg nm) rule) 0 n)
+  row-found rule a n e =
+      let q : _≡_ {A = ℕ → Bool} (rowTest (modelOf sc ty pr [] [] ch [] [] nm) rule) (rowTest (modelOf sc ty pr ke co ch bi sg nm) rule) = fun-ext (λ k. row-frame rule k) in
+      e ∙ rw q
 
   -- the searches over a whole table
   module _ (r a n : ℕ) where
+    pub lowest-6 : n ≡ schemaCount sc → r ≡ shifted 0 (firstFrom (rowTest (modelOf sc ty pr [] [] ch [] [] nm) Schema6) 0 n) → r ≡ lowestPlace (modelOf sc ty pr ke co ch bi sg nm) (ruleNo 6)
+    unfolding lowestPlace ruleNo modelOf rowTest
+    lowest-6 f g = schemas-placed (modelOf sc ty pr ke co ch bi sg nm) (λ k. schema6 (modelOf sc ty pr ke co ch bi sg nm) k) f (row-found Schema6 0 n g)
+
+    pub lowest-8 : a ≡ schemaCount sc → n ≡ typeCount ty → r ≡ shifted a (firstFrom (rowTest (modelOf sc ty pr [] [] ch [] [] nm) Type8) 0 n) → r ≡ lowestPlace (modelOf sc ty pr ke co ch bi sg nm) (ruleNo 8)
+    unfolding lowestPlace ruleNo modelOf rowTest
+    lowest-8 e f g = types-placed (modelOf sc ty pr ke co ch bi sg nm) (λ k. type8 (modelOf sc ty pr ke co ch bi sg nm) k) e f (row-found Type8 a n g)
+
+    pub lowest-9 : a ≡ schemaCount sc → n ≡ typeCount ty → r ≡ shifted a (firstFrom (rowTest (modelOf sc ty pr [] [] ch [] [] nm) Type9) 0 n) → r ≡ lowestPlace (modelOf sc ty pr ke co ch bi sg nm) (ruleNo 9)
+    unfolding lowestPlace ruleNo modelOf rowTest
+    lowest-9 e f g = types-placed (modelOf sc ty pr ke co ch bi sg nm) (λ k. type9 (modelOf sc ty pr ke co ch bi sg nm) k) e f (row-found Type9 a n g)
+
+    pub lowest-10 : a ≡ schemaCount sc + typeCount ty → n ≡ propertyCount pr → r ≡ shifted a (firstFrom (rowTest (modelOf sc ty pr [] [] ch [] [] nm) Property10) 0 n) → r ≡ lowestPlace (modelOf sc ty pr ke co ch bi sg nm) (ruleNo 10)
+    unfolding lowestPlace ruleNo modelOf rowTest
+    lowest-10 e f g = properties-placed (modelOf sc ty pr ke co ch bi sg nm) (λ k. property10 (modelOf sc ty pr ke co ch bi sg nm) k) e f (row-found Property10 a n g)
+
     pub lowest-11 : a ≡ schemaCount sc + typeCount ty → n ≡ propertyCount pr → r ≡ shifted a (firstFrom (λ p. property11 (modelOf [] ty pr [] [] [] [] [] nm) p) 0 n)
         → r ≡ lowestPlace (modelOf sc ty pr ke co ch bi sg nm) (ruleNo 11)
     unfolding lowestPlace ruleNo modelOf
@@ -122,14 +107,31 @@ module _ (sc ty pr ke co ch bi sg nm : List ℕ) where
     unfolding lowestPlace ruleNo modelOf
     lowest-13 e f g =
         let q : _≡_ {A = ℕ → Bool} (λ k. segment13 (modelOf [] [] pr ke co [] bi sg []) k) (λ k. segment13 (modelOf sc ty pr ke co ch bi sg nm) k) =
-        fun-ext (λ k. segment-13-frame k) in
+        fun-ext (λ k. segment-13-frame sc ty pr ke co ch bi sg nm k) in
         segments-placed (modelOf sc ty pr ke co ch bi sg nm) (λ k. segment13 (modelOf sc ty pr ke co ch bi sg nm) k) e refl (g ∙ rw (f, q))
 
-    pub lowest-14 : a ≡ schemaCount sc + typeCount ty + propertyCount pr + keyCount ke + constraintCount co + childCount ch + bindingCount bi
-        → n ≡ firstFrom (λ g. segment14 (modelOf [] ty pr ke co ch bi sg nm) g) 0 (segmentCount sg) → r ≡ shifted a n
-        → r ≡ lowestPlace (modelOf sc ty pr ke co ch bi sg nm) (ruleNo 14)
-    unfolding lowestPlace ruleNo modelOf
-    lowest-14 e f g =
-        let q : _≡_ {A = ℕ → Bool} (λ k. segment14 (modelOf [] ty pr ke co ch bi sg nm) k) (λ k. segment14 (modelOf sc ty pr ke co ch bi sg nm) k) =
-        fun-ext (λ k. segment-14-frame k) in
-        segments-placed (modelOf sc ty pr ke co ch bi sg nm) (λ k. segment14 (modelOf sc ty pr ke co ch bi sg nm) k) e refl (g ∙ rw (f, q))
+  -- rule 7: a type is found, or none and what is found of a child
+  module _ (s a n : ℕ) (e : a ≡ schemaCount sc) (f : n ≡ typeCount ty) (g : s ≡ shifted a (firstFrom (rowTest (modelOf sc ty pr [] [] ch [] [] nm) Type7) 0 n)) where
+    of-types : s ≡ firstFrom (λ p. onType (λ k. type7a (modelOf sc ty pr ke co ch bi sg nm) k) (recordAt (modelOf sc ty pr ke co ch bi sg nm) p)) 0 (places (modelOf sc ty pr ke co ch bi sg nm))
+    unfolding modelOf rowTest
+    of-types = types-placed (modelOf sc ty pr ke co ch bi sg nm) (λ k. type7a (modelOf sc ty pr ke co ch bi sg nm) k) e f (row-found Type7 a n g)
+
+    pub lowest-7-type : (s ≡ 0 → ⊥) → s ≡ lowestPlace (modelOf sc ty pr ke co ch bi sg nm) rule7
+    unfolding lowestPlace rule7
+    lowest-7-type z = type-first (modelOf sc ty pr ke co ch bi sg nm) (λ k. type7a (modelOf sc ty pr ke co ch bi sg nm) k) (λ k. child7b (modelOf sc ty pr ke co ch bi sg nm) k) of-types z
+
+    pub lowest-7-child : (r b l : ℕ) → s ≡ 0 → b ≡ schemaCount sc + typeCount ty + propertyCount pr + keyCount ke + constraintCount co → l ≡ childCount ch
+        → r ≡ shifted b (firstFrom (rowTest (modelOf sc ty pr [] [] ch [] [] nm) Child7) 0 l) → r ≡ lowestPlace (modelOf sc ty pr ke co ch bi sg nm) rule7
+    unfolding lowestPlace rule7 modelOf rowTest
+    lowest-7-child r b l z i j k =
+        type-child (modelOf sc ty pr ke co ch bi sg nm) (λ x. type7a (modelOf sc ty pr ke co ch bi sg nm) x) (λ x. child7b (modelOf sc ty pr ke co ch bi sg nm) x) of-types z
+        (children-placed (modelOf sc ty pr ke co ch bi sg nm) (λ x. child7b (modelOf sc ty pr ke co ch bi sg nm) x) i j (row-found Child7 b l k))
+
+-- A number that is none of those below is higher.
+above : (n k : ℕ) → k ≤ n → (n ≡ k → ⊥) → k + 1 ≤ n
+above n k h d = omega (arith, d)
+
+pub last-rule : (n : ℕ) → 6 ≤ n → n < 14 → (n ≡ 6 → ⊥) → (n ≡ 7 → ⊥) → (n ≡ 8 → ⊥) → (n ≡ 9 → ⊥) → (n ≡ 10 → ⊥) → (n ≡ 11 → ⊥) → (n ≡ 12 → ⊥) → n ≡ 13
+last-rule n a b c d e f g h i =
+    let z = above n 12 (above n 11 (above n 10 (above n 9 (above n 8 (above n 7 (above n 6 a c) d) e) f) g) h) i in
+    omega (arith, z)

@@ -1,3 +1,3 @@
-// Rules 3 to 19 over the nine tables of a model: the lowest place that breaks each rule, and the first broken rule.
+// Rules 3 to 13 over the nine tables of a model: the lowest place that breaks each.
 pub mod rows;
 pub mod stages;

@@ -1,4 +1,4 @@
-// A rule asked of the records of one table, by their numbers.
+// Rules 6 to 10, each asked of the records of one table by their numbers; rules 11 and 12, which find first what they need once.
 ghost use mathlib.Core.Path.{_≡_};
 ghost use mathlib.Core.List.{[]};
 ghost use Prim.Native.Nat.{_+_, _≤_};
@@ -8,21 +8,15 @@ ghost use Rattle.csdl.specs.Search.{firstFrom};
 ghost use Rattle.csdl.specs.Tables.{typeCount, propertyCount};
 ghost use Rattle.csdl.specs.Model.{modelOf};
 ghost use Rattle.csdl.specs.Properties.{property11, type12};
-ghost use Rattle.scan.specs.Limits.{Limits};
-ghost use Rattle.scan.specs.Rows.{rowTest, shifted};
-use bindings::bindings::binding_19;
-use bindings::children::child_18;
-use bindings::children::property_18;
-use bindings::partners::property_17;
-use form::repeats::child_7;
-use form::repeats::type_7;
-use form::schemas::schema_6;
-use paths::constraints::constraint_16;
-use paths::keys::key_15;
+ghost use Rattle.places.specs.Shifted.{shifted};
+ghost use Rattle.scan.specs.Rows.{rowTest};
+use identifiers::repeats::child_7;
+use identifiers::repeats::type_7;
+use identifiers::schemas::schema_6;
+use required::required::type_12;
+use required::required::types_on_cycles;
 use typing::properties::property_10;
 use typing::redeclared::property_11;
-use typing::required::type_12;
-use typing::required::types_on_cycles;
 use typing::types::type_8;
 use typing::types::type_9;
 
@@ -34,12 +28,6 @@ pub enum TableRule {
     Type8,
     Type9,
     Property10,
-    Key15,
-    Constraint16,
-    Property17,
-    Property18,
-    Child18,
-    Binding19,
 }
 
 // Whether record k of the rule's table breaks it.
@@ -47,18 +35,13 @@ fn row_breaks(
     schemas: &[u8],
     types: &[u8],
     properties: &[u8],
-    keys: &[u8],
-    constraints: &[u8],
     children: &[u8],
-    bindings: &[u8],
-    segments: &[u8],
     names: &[u8],
-    index: &[u16],
     rule: TableRule,
     k: u16,
 ) -> bool
-    requires { ⌜ Limits (now schemas) (now types) (now properties) (now keys) (now constraints) (now children) (now bindings) (now segments) × Indexed (now properties) (now names) (now index) ⌝ }
-    ensures { λ r. ⌜ r ≡ rowTest (modelOf (now (schemas .entry)) (now (types .entry)) (now (properties .entry)) (now (keys .entry)) (now (constraints .entry)) (now (children .entry)) (now (bindings .entry)) (now (segments .entry)) (now (names .entry))) rule k ⌝ }
+    requires { ⌜ length (now types) ≤ 384 ⌝ }
+    ensures { λ r. ⌜ r ≡ rowTest (modelOf (now (schemas .entry)) (now (types .entry)) (now (properties .entry)) [] [] (now (children .entry)) [] [] (now (names .entry))) rule k ⌝ }
 {
     match rule {
         TableRule::Schema6 => schema_6(schemas, names, k),
@@ -67,29 +50,6 @@ fn row_breaks(
         TableRule::Type8 => type_8(types, k),
         TableRule::Type9 => type_9(types, k),
         TableRule::Property10 => property_10(types, properties, k),
-        TableRule::Key15 => key_15(types, properties, keys, segments, names, index, k),
-        TableRule::Constraint16 => constraint_16(
-            types,
-            properties,
-            constraints,
-            segments,
-            names,
-            index,
-            k,
-        ),
-        TableRule::Property17 => property_17(types, properties, segments, names, index, k),
-        TableRule::Property18 => property_18(types, properties, keys, k),
-        TableRule::Child18 => child_18(types, keys, children, k),
-        TableRule::Binding19 => binding_19(
-            types,
-            properties,
-            children,
-            bindings,
-            segments,
-            names,
-            index,
-            k,
-        ),
     }
 }
 
@@ -98,37 +58,18 @@ pub fn first_row(
     schemas: &[u8],
     types: &[u8],
     properties: &[u8],
-    keys: &[u8],
-    constraints: &[u8],
     children: &[u8],
-    bindings: &[u8],
-    segments: &[u8],
     names: &[u8],
-    index: &[u16],
     rule: TableRule,
     at: u16,
     n: u16,
 ) -> u16
-    requires { ⌜ Limits (now schemas) (now types) (now properties) (now keys) (now constraints) (now children) (now bindings) (now segments) × Indexed (now properties) (now names) (now index) ⌝ }
-    requires { ⌜ (at ≤ 2048) × (n ≤ 1024) ⌝ }
-    ensures { λ r. ⌜ r ≡ shifted at (firstFrom (rowTest (modelOf (now (schemas .entry)) (now (types .entry)) (now (properties .entry)) (now (keys .entry)) (now (constraints .entry)) (now (children .entry)) (now (bindings .entry)) (now (segments .entry)) (now (names .entry))) rule) 0 n) ⌝ }
+    requires { ⌜ (length (now types) ≤ 384) × (at ≤ 2048) × (n ≤ 1024) ⌝ }
+    ensures { λ r. ⌜ r ≡ shifted at (firstFrom (rowTest (modelOf (now (schemas .entry)) (now (types .entry)) (now (properties .entry)) [] [] (now (children .entry)) [] [] (now (names .entry))) rule) 0 n) ⌝ }
 {
     let mut k: u16 = 0;
     while k < n {
-        if row_breaks(
-            schemas,
-            types,
-            properties,
-            keys,
-            constraints,
-            children,
-            bindings,
-            segments,
-            names,
-            index,
-            rule,
-            k,
-        ) {
+        if row_breaks(schemas, types, properties, children, names, rule, k) {
             return at + k + 1;
         }
         k += 1;

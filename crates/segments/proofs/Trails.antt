@@ -2,18 +2,20 @@
 use Prim.Native.Nat.{ℕ, _+_, _-_, _≤_, _<_}
 use mathlib.Core.Path.{_≡_, refl}
 use mathlib.Core.List.{List, []}
-use mathlib.Core.Bool.{Bool, true, false, not}
+use mathlib.Core.Bool.{Bool, true, false, cond, not}
 use native.Mathlib.Omega.{arith}
 use lib.Dec.{leb}
-use borrow.Author.Tests.{le-leb, lt-leb}
+use borrow.Author.Tests.{le-leb, lt-leb, leb-true, leb-false}
 use Rattle.csdl.specs.Model.{Model, modelOf, inRun}
-use Rattle.csdl.specs.Path.{Kind, pathOf, startOf}
+use Rattle.csdl.specs.Path.{Kind, holders, pathOf, startOf}
 use Rattle.csdl.specs.Paths.{stuckIn}
 use Rattle.csdl.proofs.Logic.{run-in, in-run}
 use Rattle.trail.specs.Trail.{TrailOf}
 use Rattle.trail.proofs.Frame.{trail-frame}
 use Rattle.segments.proofs.Frame.{path-frame, start-frame}
 use Rattle.segments.specs.Lowest.{Lowest}
+use Rattle.segments.specs.Kept.{RunKept, Resolvable, PathStep}
+use Rattle.segments.proofs.Keeping.{path-step}
 
 module _ (m : Model) (w : Kind) (r : ℕ) (codes : List ℕ) (taken end : ℕ) (t : TrailOf m (startOf m w r) (pathOf m w r .first) (pathOf m w r .count) codes taken end) where
   out : (g : ℕ) → inRun (pathOf m w r) g ≡ false → stuckIn m w g r ≡ false
@@ -76,11 +78,21 @@ module _ (ty pr ke co ch bi sg nm : List ℕ) (w : Kind) (r start first count ta
   pub count-is : count ≡ pathOf whole-model w r .count
   count-is = rw (← path-frame [] ty pr ke co ch bi sg nm w r) ec
 
-  pub path-here : (top : ℕ) → taken < count → first + taken < top → Lowest (λ g. stuckIn whole-model w g r) top (first + taken)
-  path-here top h l = rw first-is (lowest-here whole-model w r codes taken end whole top (omega (arith, count-is)) (omega (arith, first-is)))
+  -- The lowest number below `top` at which the path is stuck, as the code finds it.
+  pub path-lowest : (top : ℕ) → Lowest (λ g. stuckIn whole-model w g r) top (cond (leb count taken) top (cond (leb top (first + taken)) top (first + taken)))
+  path-lowest top = go (leb count taken) refl (leb top (first + taken)) refl
+    where
+      go : (a : Bool) → leb count taken ≡ a → (b : Bool) → leb top (first + taken) ≡ b → Lowest (λ g. stuckIn whole-model w g r) top (cond a top (cond b top (first + taken)))
+      go true e b f = lowest-never whole-model w r codes taken end whole top (omega (arith, count-is, leb-true count taken e))
+      go false e true f = lowest-later whole-model w r codes taken end whole top (omega (arith, first-is, leb-true top (first + taken) f))
+      go false e false f =
+          rw first-is
+          (lowest-here whole-model w r codes taken end whole top (omega (arith, count-is, leb-false count taken e)) (omega (arith, first-is, leb-false top (first + taken) f)))
 
-  pub path-later : (top : ℕ) → top ≤ first + taken → Lowest (λ g. stuckIn whole-model w g r) top top
-  path-later top l = lowest-later whole-model w r codes taken end whole top (omega (arith, first-is))
+  -- Its codes have room, and kept they are those of the path.
+  module _ (fit : Resolvable whole-model) (there : r < holders whole-model w) where
+    pub run-room : first + count ≤ whole-model .segments
+    run-room = rw (first-is, count-is) (fit .in-table w r there)
 
-  pub path-never : (top : ℕ) → count ≤ taken → Lowest (λ g. stuckIn whole-model w g r) top top
-  path-never top h = lowest-never whole-model w r codes taken end whole top (omega (arith, count-is))
+  pub run-step : (before kept : List ℕ) → RunKept codes first count before kept → PathStep whole-model w r before kept
+  run-step before kept s = path-step whole-model w r taken end codes before kept whole (rw (first-is, count-is) at s)

@@ -1,3 +1,4 @@
 pub mod Kinds
 pub mod Cover
 pub mod Lowest
+pub mod Kept

@@ -4,3 +4,4 @@ pub mod Last
 pub mod Turn
 pub mod Frame
 pub mod Reading
+pub mod Runs

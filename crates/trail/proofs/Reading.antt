@@ -12,13 +12,13 @@ use Rattle.csdl.specs.Search.{tab, anyFrom, firstFrom, some, butLast, lastOr, o
 use Rattle.csdl.specs.Climb.{nearest}
 use Rattle.csdl.specs.Model.{Model}
 use Rattle.csdl.specs.Find.{find, own, containStep}
-use Rattle.csdl.specs.Path.{Segment, Step, stepAt, stepsOf, isType, isProperty, isOther, propertyOf, properties}
+use Rattle.csdl.specs.Path.{Segment, Step, segmentAt, stepAt, stepsOf, movesTo, endOf, alongEnd, isType, isProperty, isOther, propertyOf, properties}
 use Rattle.csdl.specs.Path.Step.{property, type}
 use Rattle.csdl.specs.Path.Segment.{name, cast}
 use Rattle.csdl.specs.Paths.{hasCast, lastStep, lastProperty, bindingForm, crosses, targetForm, targetStep}
 use Rattle.csdl.specs.Verdict.{stepCode}
-use Rattle.trail.specs.Trail.{TrailOf, prefix, stepNo, codeAt, castCode, isCode, otherCode, numberOf, lastCode, lastName, formOf}
-use Rattle.trail.proofs.Laws.{but-last-tab, last-tab, some-tab, any-same, steps-tab}
+use Rattle.trail.specs.Trail.{prefix, stepNo, codeAt, castCode, isCode, otherCode, numberOf, codeTo, codeEnd, lastCode, lastName, formOf}
+use Rattle.trail.proofs.Laws.{but-last-tab, last-tab, some-tab, any-same, end-more, steps-tab}
 
 -- ---- a property's number is below the count
 first-le : (test : ℕ → Bool) (i n : ℕ) → firstFrom test i n ≤ i + n
@@ -68,6 +68,14 @@ code-other test (type c) h = let e : 32768 ≤ 32768 + c = omega arith in rw (le
 pub code-number : (s : Step) → propertyOf s < 32768 → numberOf (stepCode s) ≡ propertyOf s
 code-number (property p) h = rw (lt-ltb p 32768 h)
 code-number (type c) h = let e : 32768 ≤ 32768 + c = omega arith in rw (le-ltb (32768 + c) 32768 e)
+
+pub code-moves : (m : Model) (t : ℕ) (g : Segment) → m .properties ≤ 32768 → codeTo m (stepCode (stepAt m t g)) ≡ movesTo m t g
+unfolding codeTo stepAt movesTo
+code-moves m t (name x) h = rw (lt-ltb (find m x t - 1) 32768 (omega (arith, find-le m x t)))
+code-moves m t (cast c) h =
+    let e : 32768 ≤ 32768 + c = omega arith in
+    let d : 32768 + c - 32768 ≡ c = omega arith in
+    rw (le-ltb (32768 + c) 32768 e, d)
 
 -- ---- names before the last name
 abbrev stepNames : Step → List ℕ
@@ -120,14 +128,14 @@ steps-list m start first n = steps-tab _ _ _ start first n
 
 -- what segment g of the path resolves to, by its number in the path
 
-module _ (m : Model) (start first n : ℕ) (codes : List ℕ) (taken end : ℕ) (trail : TrailOf m start first n codes taken end) (few : m .properties ≤ 32768) where
+module _ (m : Model) (start first n : ℕ) (codes : List ℕ) (coded : (k : ℕ) → k < n → getD codes k 0 ≡ codeAt m start first k) (few : m .properties ≤ 32768) where
   no-small : (k : ℕ) → propertyOf (stepNo m start first k) < 32768
   unfolding stepNo
   no-small k = step-small m _ _ few
 
   code-no : (k : ℕ) → k < n → getD codes k 0 ≡ stepCode (stepNo m start first k)
   unfolding codeAt
-  code-no k h = trail .code k h
+  code-no k h = coded k h
 
   -- a search over the first j codes is one over the first j steps
   pub codes-some : (f : ℕ → Bool) (q : Step → Bool) → ((s : Step) → propertyOf s < 32768 → f (stepCode s) ≡ q s) → (j : ℕ) → j ≤ n
@@ -180,6 +188,21 @@ module _ (m : Model) (start first n : ℕ) (codes : List ℕ) (taken end : ℕ) 
 
   pub last-number : numberOf (lastCode codes n) ≡ lastProperty (stepsOf m start (prefix m first n))
   last-number = rw last-step (code-number (lastStep (stepsOf m start (prefix m first n))) last-small)
+
+  -- the type reference at the end
+  code-end : (j : ℕ) → codeTo m (stepCode (stepNo m start first j)) ≡ endOf m start (prefix m first (suc j))
+  unfolding stepNo
+  code-end j = code-moves m _ _ few ∙ sym (end-more (λ u x. movesTo m u x) (λ x. segmentAt m x) start first j)
+
+  pub end-steps : codeEnd m start codes n ≡ endOf m start (prefix m first n)
+  unfolding codeEnd tab alongEnd
+  end-steps = go n refl
+    where
+      go : (j : ℕ) → j ≡ n → codeEnd m start codes j ≡ endOf m start (prefix m first j)
+      go zero e = refl
+      go (suc j) e =
+          let l : suc j - 1 ≡ j = omega arith in
+          rw (eqb·suc-zero j, l, code-no j (omega arith)) (code-end j)
 
   -- the form of a target path (rule 19)
   pub target-steps : (anyFrom (λ k. otherCode (λ p. targetStep m p) (getD codes k 0)) 0 (n - 1) || otherCode (λ p. containStep m p) (lastCode codes n)) ≡ targetForm m (stepsOf m start (prefix m first n))

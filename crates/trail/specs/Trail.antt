@@ -38,6 +38,13 @@ numberOf c = cond (ltb c 32768) c 0
 unfoldable pub lastCode : List ℕ → ℕ → ℕ
 lastCode codes n = cond (eqb n 0) 32768 (getD codes (n - 1) 0)
 
+-- The type reference that a code moves to, and the one at the end of n codes, from type `start` on.
+unfoldable pub codeTo : Model → ℕ → ℕ
+codeTo m c = cond (ltb c 32768) (m .typeRef c) (c - 32768)
+
+unfoldable pub codeEnd : Model → ℕ → List ℕ → ℕ → ℕ
+codeEnd m start codes n = cond (eqb n 0) start (codeTo m (getD codes (n - 1) 0))
+
 -- Where the last name of n codes stands, which casts may follow: 0 for none, else its number and 1.
 unfoldable pub lastName : List ℕ → ℕ → ℕ
 lastName codes zero = 0

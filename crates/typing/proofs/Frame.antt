@@ -3,9 +3,9 @@ use Prim.Native.Nat.{ℕ}
 use mathlib.Core.Path.{_≡_, refl}
 use mathlib.Core.List.{List, []}
 use Rattle.csdl.specs.Model.{modelOf}
-use Rattle.csdl.specs.Find.{ofKind, structured, ancestor, isAt, complexStep, containStep, integral}
+use Rattle.csdl.specs.Find.{ofKind, structured, ancestor}
 use Rattle.csdl.specs.Types.{type8, type9}
-use Rattle.csdl.specs.Properties.{streams, property10, sameName, redeclares, property11a, property11b, property11, required, requiredStep, type12}
+use Rattle.csdl.specs.Properties.{streams, property10, sameName, redeclares, property11a, property11b, property11}
 
 module _ (sc ty pr ke co ch bi sg nm : List ℕ) where
   pub type-8-frame : (t : ℕ) → type8 (modelOf [] ty [] [] [] [] [] [] []) t ≡ type8 (modelOf sc ty pr ke co ch bi sg nm) t
@@ -27,7 +27,3 @@ module _ (sc ty pr ke co ch bi sg nm : List ℕ) where
   pub property-11-frame : (p : ℕ) → property11 (modelOf [] ty pr [] [] [] [] [] nm) p ≡ property11 (modelOf sc ty pr ke co ch bi sg nm) p
   unfolding modelOf property11 property11a property11b sameName redeclares ancestor
   property-11-frame p = refl
-
-  pub type-12-frame : (t : ℕ) → type12 (modelOf [] ty pr [] [] [] [] [] []) t ≡ type12 (modelOf sc ty pr ke co ch bi sg nm) t
-  unfolding modelOf type12 requiredStep required integral complexStep containStep ofKind isAt ancestor
-  type-12-frame t = refl

@@ -1,6 +1,4 @@
 pub mod Named
 pub mod Bools
 pub mod Frame
-pub mod Gather
-pub mod Rounds
-pub mod Steps
+pub mod Clashes

@@ -8,7 +8,7 @@ use Rattle.packed.proofs.Laws.{same-sym}
 use Rattle.csdl.specs.Model.{modelOf}
 use Rattle.csdl.specs.Properties.{sameName}
 use Rattle.lookup.specs.Index.{nameOf}
-use Rattle.typing.specs.Steps.{repeated, clash}
+use Rattle.typing.specs.Clashes.{repeated, clash}
 
 module _ (types properties names : List ℕ) (p q : ℕ) (h : same (nameOf properties names q) (nameOf properties names p) ≡ false) where
   other : same (nameOf properties names p) (nameOf properties names q) ≡ false

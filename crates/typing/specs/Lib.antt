@@ -1,2 +1,1 @@
-pub mod Cycles
-pub mod Steps
+pub mod Clashes

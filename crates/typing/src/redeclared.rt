@@ -8,7 +8,7 @@ ghost use Rattle.csdl.specs.Tables.{propertyCount};
 ghost use Rattle.csdl.specs.Search.{anyFrom};
 ghost use Rattle.csdl.specs.Model.{modelOf};
 ghost use Rattle.csdl.specs.Properties as rules;
-ghost use Rattle.typing.specs.Steps.{repeated, clash};
+ghost use Rattle.typing.specs.Clashes.{repeated, clash};
 use lines::bases::ancestors_of;
 use lines::sets::in_set;
 use lookup::bases::ancestor;

@@ -1,6 +1,6 @@
-use mathlib.Core.Path.{sym, _∙_}
+use mathlib.Core.Path.{refl, sym, _∙_}
 use Rattle.form.proofs.Parts.{layout}
-use Rattle.model.proofs.Answers.{short, roomy, answer-bad, answer-short, answer-accepted, answer-refused, can-resolve, has-room}
+use Rattle.model.proofs.Answers.{short, roomy, answer-bad, answer-short, answer-accepted, answer-refused, written-codes}
 use borrow.Author.Needs.{needs}
 use Rattle.model.proofs.check_model.Statement.{statement}
 use Rattle.model.proofs.check_model.Tie as tie
@@ -14,25 +14,22 @@ returns-2 c =
     answer-short _ _ good (short _ _ _ (c .before .header .ensures) (c .if2 .taken))
 
 check-parts-requires : tie.Need-check-parts-requires
-check-parts-requires c κs = layout _ (sym (c .before .before .before .bad-image .ensures) ∙ c .before .before .if1 .left)
-
-write-parts-requires : tie.Need-write-parts-requires
-write-parts-requires c κs =
-    let e = c .before .before .before in
-    let good = sym (e .before .before .before .before .bad-image .ensures) ∙ e .before .before .before .if1 .left in
-    (layout _ good, can-resolve _ good _ _ (e .check-parts .ensures) (c .before .enum-told .given .1), has-room _ good _ _ (e .before .before .header .ensures) (e .before .if2 .left))
+check-parts-requires c κs = (layout _ (sym (c .before .before .before .before .bad-image .ensures) ∙ c .before .before .before .if1 .left), refl)
 
 returns-3 : tie.Need-returns-3
 returns-3 c =
-    let e = c .before .before .before .before .before .before in
-    let good = sym (e .before .before .before .before .bad-image .ensures) ∙ e .before .before .before .if1 .left in
-    answer-accepted _ _ good (roomy _ _ _ (e .before .before .header .ensures) (e .before .if2 .left)) _ (e .check-parts .ensures) _ (c .before .before .before .before .enum-told .given .1) _ (c .before .before .write-parts .ensures)
+    let e = c .before .before .before .before .before .before .before .before in
+    let good = sym (e .before .before .before .before .before .bad-image .ensures) ∙ e .before .before .before .before .if1 .left in
+    let told = c .before .before .before .before .before .enum-told .given .1 in
+    let count = e .before .before .before .header .ensures in
+    answer-accepted _ _ good (roomy _ _ _ count (e .before .before .if2 .left)) _ (e .check-parts .ensures .0) _ told _
+    (c .before .before .write-resolution .ensures ∙ written-codes _ good _ count _ _ (e .check-parts .ensures .0) told _ (e .check-parts .ensures .1 _ told) _)
 
 returns-4 : tie.Need-returns-4
 returns-4 c =
-    let e = c .before .before in
-    let good = sym (e .before .before .before .before .bad-image .ensures) ∙ e .before .before .before .if1 .left in
-    answer-refused _ _ good (roomy _ _ _ (e .before .before .header .ensures) (e .before .if2 .left)) _ (e .check-parts .ensures) _ _ (c .enum-told2 .given .1)
+    let e = c .before .before .before in
+    let good = sym (e .before .before .before .before .before .bad-image .ensures) ∙ e .before .before .before .before .if1 .left in
+    answer-refused _ _ good (roomy _ _ _ (e .before .before .before .header .ensures) (e .before .before .if2 .left)) _ (e .check-parts .ensures .0) _ _ (c .enum-told2 .given .1)
 
 pub check-model-spec : {M : Type 1} → statement M
 check-model-spec =
@@ -44,9 +41,11 @@ check-model-spec =
     (λ c. search needs)
     (λ c. search needs)
     returns-2
+    (λ c. search needs)
     check-parts-requires
     (λ c. search needs)
-    write-parts-requires
+    (λ c. search needs)
+    (λ c κs. search needs)
     (λ c. search needs)
     (λ c. search needs)
     returns-3

@@ -1,4 +1,4 @@
-use mathlib.Core.Path.{sym, _∙_}
+use mathlib.Core.Path.{refl, sym, _∙_}
 use Rattle.form.proofs.Parts.{layout}
 use Rattle.model.proofs.Answers.{then-bad, then-good}
 use borrow.Author.Needs.{needs}
@@ -9,10 +9,17 @@ returns : tie.Need-returns
 returns c = then-bad _ _ (sym (c .before .bad-image .ensures) ∙ c .if1 .taken)
 
 check-parts-requires : tie.Need-check-parts-requires
-check-parts-requires c κs = layout _ (sym (c .before .bad-image .ensures) ∙ c .if1 .left)
+check-parts-requires c κs = (layout _ (sym (c .before .before .bad-image .ensures) ∙ c .before .if1 .left), refl)
 
 returns-2 : tie.Need-returns-2
-returns-2 c = c .check-parts .ensures ∙ sym (then-good _ _ (sym (c .before .before .bad-image .ensures) ∙ c .before .if1 .left))
+returns-2 c = c .before .check-parts .ensures .0 ∙ sym (then-good _ _ (sym (c .before .before .before .before .bad-image .ensures) ∙ c .before .before .before .if1 .left))
 
 pub check-rules-spec : {M : Type 1} → statement M
-check-rules-spec = tie.close (tie.spec (λ c κs. search needs) returns check-parts-requires returns-2)
+check-rules-spec =
+    tie.close
+    (tie.spec
+    (λ c κs. search needs)
+    returns
+    (λ c. search needs)
+    check-parts-requires
+    returns-2)

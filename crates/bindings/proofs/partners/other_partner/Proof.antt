@@ -1,6 +1,3 @@
-use mathlib.Core.Path.{ap}
-use mathlib.Core.Bool.{not}
-use lib.Dec.{eqb}
 use borrow.Author.Tests.{eq-eqb, ne-eqb}
 use Rattle.csdl.specs.Model.{modelOf}
 use Rattle.bindings.specs.Partners.{otherPartner}
@@ -14,9 +11,7 @@ returns c = rw (← c .before .before .property-partner .ensures .1, eq-eqb _ _ 
 
 returns-2 : tie.Need-returns-2
 unfolding modelOf otherPartner
-returns-2 c =
-    let a = c .before .before .before .before .before .before .before .before .before .args in
-    rw (← c .before .before .before .property-partner .ensures .1, ne-eqb _ _ (c .before .if1 .left)) (ap not (c .partner-code .ensures (λ x. eqb x (a .p))))
+returns-2 c = rw (← c .before .before .before .property-partner .ensures .1, ne-eqb _ _ (c .before .if1 .left), ← c .partner-code .ensures)
 
 pub other-partner-spec : {M : Type 1} → statement M
 other-partner-spec =

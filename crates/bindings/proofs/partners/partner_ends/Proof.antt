@@ -1,14 +1,15 @@
 use mathlib.Core.Path.{ap, ap₂}
 use mathlib.Core.Bool.{not, _||_}
 use Rattle.csdl.specs.Model.{modelOf}
-use Rattle.csdl.specs.Find.{isAt, ancestor, top}
-use Rattle.bindings.specs.Partners.{containedPartner, partnerEnds}
+use Rattle.csdl.specs.Find.{isAt, ancestor}
+use Rattle.csdl.specs.Path.{pathOf}
+use Rattle.bindings.specs.Partners.{partnerLast, otherPartner, partnerEnds}
 use borrow.Author.Needs.{needs}
 use Rattle.bindings.proofs.partners.partner_ends.Statement.{statement}
 use Rattle.bindings.proofs.partners.partner_ends.Tie as tie
 
 returns : tie.Need-returns
-unfolding modelOf partnerEnds containedPartner isAt ancestor top
+unfolding modelOf pathOf partnerEnds partnerLast otherPartner isAt ancestor
 returns c =
     let b = c .before .before .before in
     ap₂ _||_

@@ -1,24 +1,24 @@
-use mathlib.Core.Path.{_∙_, ap}
-use Rattle.trail.specs.Trail.{numberOf}
-use Rattle.bindings.proofs.PartnerPaths.{partner-path, partner-number, partner-whole, partner-none}
+use mathlib.Core.Path.{ap₂}
+use mathlib.Core.Bool.{_||_}
+use borrow.Author.Tests.{eq-eqb, ne-eqb}
+use Rattle.csdl.specs.Model.{modelOf}
+use Rattle.csdl.specs.Path.{pathOf}
+use Rattle.bindings.specs.Partners.{partnerLast, partnerCoded}
 use borrow.Author.Needs.{needs}
 use Rattle.bindings.proofs.partners.property_17.Statement.{statement}
 use Rattle.bindings.proofs.partners.property_17.Tie as tie
 
 returns : tie.Need-returns
-returns c = partner-none _ _ _ _ _ _ (c .before .property-partner .ensures .1) (c .if1 .taken)
+unfolding modelOf partnerCoded
+returns c = rw (← c .before .before .property-partner .ensures .1, eq-eqb _ _ (c .if1 .taken))
 
 returns-2 : tie.Need-returns-2
+unfolding modelOf pathOf partnerLast partnerCoded
 returns-2 c =
     let l = c .before .before .before .before in
-    let t = l .before .before .before in
-    let run = t .before .before .before .property-partner .ensures in
-    let s = t .before .before .before .before .before .before .before .before .before in
-    let e = t .before .property-type-ref .ensures .0 in
-    partner-whole _ _ _ _ _ _ (run .1) (t .before .before .if1 .left) _ _ _
-    (c .before .partner-codes .ensures ∙ partner-path _ _ _ _ (s .pre .1) (s .args .p) _ _ _ _ _ _ e (run .0) (run .1) (t .trail-of .ensures))
-    (c .before .before .before .number-of .ensures ∙ ap (λ x. numberOf x) (l .last-code .ensures) ∙ partner-number _ _ _ _ (s .pre .1) (s .args .p) _ _ _ _ _ _ e (run .0) (run .1) (t .trail-of .ensures))
-    (c .partner-ends .ensures)
+    let r = l .before .before in
+    let path = r .before .before .before .property-partner .ensures in
+    rw (← path .0, ← path .1, ne-eqb _ _ (r .before .if1 .left), ← r .run-of .ensures, ← l .last-code .ensures, ← c .before .before .before .number-of .ensures) (ap₂ _||_ (c .before .partner-codes .ensures) (c .partner-ends .ensures))
 
 pub property-17-spec : {M : Type 1} → statement M
 property-17-spec =
@@ -26,7 +26,6 @@ property-17-spec =
     (tie.spec
     (λ c κs. search needs)
     returns
-    (λ c κs. search needs)
     (λ c κs. search needs)
     (λ c. search needs)
     (λ c κs. search needs)

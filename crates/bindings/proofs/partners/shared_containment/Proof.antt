@@ -5,18 +5,17 @@ use native.Mathlib.Omega.{arith}
 use borrow.Author.Tests.{not-true, not-false}
 use Rattle.csdl.specs.Search.{anyFrom}
 use Rattle.csdl.specs.Model.{modelOf}
-use Rattle.csdl.specs.Paths.{otherContained}
 use Rattle.csdl.proofs.Loops.{Any, any-start, any-hit, any-next, any-end}
-use Rattle.bindings.specs.Partners.{sharedContainment}
+use Rattle.bindings.specs.Partners.{otherContains, sharedContainment}
 use borrow.Author.Needs.{needs}
 use Rattle.bindings.proofs.partners.shared_containment.Statement.{statement}
 use Rattle.bindings.proofs.partners.shared_containment.Tie as tie
 
 abbrev Inv-loop : tie.InvT-loop
-Inv-loop types properties segments names index p q n x₀ x = Any (λ k. otherContained (modelOf [] types properties [] [] [] [] segments names) p k) n x × (n ≤ 512)
+Inv-loop types properties codes p q n x₀ x = Any (λ k. otherContains (modelOf [] types properties [] [] [] [] [] []) codes p k) n x × (n ≤ 512)
 
 abbrev μ-loop : tie.MeasureT-loop
-μ-loop types properties segments names index p q n x₀ x = n - x
+μ-loop types properties codes p q n x₀ x = n - x
 
 returns : tie.Need-returns Inv-loop μ-loop
 unfolding modelOf sharedContainment
@@ -29,10 +28,10 @@ returns-2 : tie.Need-returns-2 Inv-loop μ-loop
 unfolding modelOf sharedContainment
 returns-2 c =
     let l = c .before .before .before in
-    let a = l .before .before .before .before .before .before .before .before .before .args in
-    let m = modelOf [] (a .types .now) (a .properties .now) [] [] [] [] (a .segments .now) (a .names .now) in
+    let a = l .before .before .before .before .before .before .before .args in
+    let m = modelOf [] (a .types .now) (a .properties .now) [] [] [] [] [] [] in
     rw (← l .before .before .before .property-contains .ensures, not-false (l .before .before .before .property-contains .result) (l .before .before .if1 .left))
-    (any-hit _ _ _ _ (l .loop .inv .0) (c .before .before .loop-test .taken) (c .before .other-contained .ensures) (c .if2 .taken) ∙ ap (λ k. anyFrom (λ x. otherContained m (a .p) x) 0 k) (l .before .property-count .ensures .0))
+    (any-hit _ _ _ _ (l .loop .inv .0) (c .before .before .loop-test .taken) (c .before .other-contained .ensures) (c .if2 .taken) ∙ ap (λ k. anyFrom (λ x. otherContains m (a .codes .now) (a .p) x) 0 k) (l .before .property-count .ensures .0))
 
 loop-again : tie.Need-loop-again Inv-loop μ-loop
 loop-again c =
@@ -42,10 +41,10 @@ returns-3 : tie.Need-returns-3 Inv-loop μ-loop
 unfolding modelOf sharedContainment
 returns-3 c =
     let l = c .before in
-    let a = l .before .before .before .before .before .before .before .before .before .args in
-    let m = modelOf [] (a .types .now) (a .properties .now) [] [] [] [] (a .segments .now) (a .names .now) in
+    let a = l .before .before .before .before .before .before .before .args in
+    let m = modelOf [] (a .types .now) (a .properties .now) [] [] [] [] [] [] in
     rw (← l .before .before .before .property-contains .ensures, not-false (l .before .before .before .property-contains .result) (l .before .before .if1 .left))
-    (any-end _ _ _ (l .loop .inv .0) (omega arith) ∙ ap (λ k. anyFrom (λ x. otherContained m (a .p) x) 0 k) (l .before .property-count .ensures .0))
+    (any-end _ _ _ (l .loop .inv .0) (omega arith) ∙ ap (λ k. anyFrom (λ x. otherContains m (a .codes .now) (a .p) x) 0 k) (l .before .property-count .ensures .0))
 
 pub shared-containment-spec : {M : Type 1} → statement M
 shared-containment-spec =

@@ -4,10 +4,10 @@ use mathlib.Core.Path.{ap, ap₂, _∙_}
 use native.Mathlib.Omega.{arith}
 use mathlib.Core.Bool.{Bool, not, _&&_}
 use lib.Dec.{eqb}
-use Rattle.conform.specs.Tables.{Holding}
+use Rattle.runs.specs.Tables.{Holding}
 use Rattle.csdl.specs.Search.{mark}
 use Rattle.instance.specs.Graph.{leavingRun}
-use Rattle.conform.proofs.Fills.{markedIn, marked-none, marked-down, marked-all}
+use Rattle.runs.proofs.Fills.{markedIn, marked-none, marked-down, marked-all}
 use Rattle.instance.proofs.Bridge.{steps-run}
 use Rattle.instance.proofs.holding.grow.Statement.{statement}
 use Rattle.instance.proofs.holding.grow.Tie as tie

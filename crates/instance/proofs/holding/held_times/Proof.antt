@@ -4,10 +4,10 @@ use mathlib.Core.Path.{ap, _∙_}
 use native.Mathlib.Omega.{arith}
 use mathlib.Core.Bool.{not}
 use lib.Dec.{eqb}
-use Rattle.conform.specs.Tables.{Holding}
+use Rattle.runs.specs.Tables.{Holding}
 use Rattle.csdl.specs.Search.{mark}
 use Rattle.instance.specs.Graph.{heldRun}
-use Rattle.conform.proofs.Fills.{countIn, count-none, count-down, count-all}
+use Rattle.runs.proofs.Fills.{countIn, count-none, count-down, count-all}
 use Rattle.instance.proofs.Bridge.{times-run}
 use Rattle.instance.proofs.holding.held_times.Statement.{statement}
 use Rattle.instance.proofs.holding.held_times.Tie as tie

@@ -6,10 +6,10 @@ use native.Mathlib.Omega.{arith}
 use mathlib.Core.Bool.{not}
 use lib.Dec.{eqb}
 use lib.ListN.{getD}
-use Rattle.conform.specs.Tables.{Holding}
+use Rattle.runs.specs.Tables.{Holding}
 use Rattle.csdl.specs.Search.{mark}
 use Rattle.instance.specs.Graph.{heldRun}
-use Rattle.conform.proofs.Fills.{latestIn, latest-none, latest-down, latest-all}
+use Rattle.runs.proofs.Fills.{latestIn, latest-none, latest-down, latest-all}
 use Rattle.instance.proofs.Bridge.{holder-run}
 use Rattle.instance.proofs.holding.holders_of.Statement.{statement}
 use Rattle.instance.proofs.holding.holders_of.Tie as tie

@@ -3,7 +3,7 @@ use mathlib.Core.List.{[]}
 use Rattle.csdl.specs.Model.{modelOf}
 use Rattle.csdl.specs.Properties.{property11}
 use Rattle.csdl.proofs.Loops.{First}
-use Rattle.scan.proofs.Finding.{row}
+use Rattle.places.proofs.Finding.{row}
 use borrow.Author.Needs.{needs}
 use Rattle.scan.proofs.rows.first_11.Statement.{statement}
 use Rattle.scan.proofs.rows.first_11.Tie as tie

@@ -3,7 +3,7 @@ use mathlib.Core.List.{[]}
 use Rattle.csdl.specs.Model.{modelOf}
 use Rattle.csdl.specs.Properties.{type12}
 use Rattle.csdl.proofs.Loops.{First}
-use Rattle.scan.proofs.Finding.{row}
+use Rattle.places.proofs.Finding.{row}
 use borrow.Author.Needs.{needs}
 use Rattle.scan.proofs.rows.first_12.Statement.{statement}
 use Rattle.scan.proofs.rows.first_12.Tie as tie

@@ -1,18 +1,19 @@
 use Prim.Native.Nat.{_-_}
+use mathlib.Core.List.{[]}
 use Rattle.csdl.specs.Model.{modelOf}
 use Rattle.csdl.proofs.Loops.{First}
 use Rattle.scan.specs.Rows.{rowTest}
-use Rattle.scan.proofs.Finding.{row}
+use Rattle.places.proofs.Finding.{row}
 use borrow.Author.Needs.{needs}
 use Rattle.scan.proofs.rows.first_row.Statement.{statement}
 use Rattle.scan.proofs.rows.first_row.Tie as tie
 
 abbrev Inv-loop : tie.InvT-loop
-Inv-loop schemas types properties keys constraints children bindings segments names index rule at n k₀ k =
-    First (rowTest (modelOf schemas types properties keys constraints children bindings segments names) rule) n k
+Inv-loop schemas types properties children names rule at n k₀ k =
+    First (rowTest (modelOf schemas types properties [] [] children [] [] names) rule) n k
 
 abbrev μ-loop : tie.MeasureT-loop
-μ-loop schemas types properties keys constraints children bindings segments names index rule at n k₀ k = n - k
+μ-loop schemas types properties children names rule at n k₀ k = n - k
 
 loop-holds : tie.Need-loop-holds Inv-loop μ-loop
 loop-holds c = search row

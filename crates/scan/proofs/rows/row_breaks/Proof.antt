@@ -1,7 +1,7 @@
 use mathlib.Core.Path.{_∙_}
 use Rattle.typing.proofs.Frame.{type-8-frame, type-9-frame, property-10-frame}
 use Rattle.scan.specs.Rows.{rowTest}
-use Rattle.scan.proofs.Frame.{schema-6-frame, type-7-frame, child-7-frame, key-15-frame, constraint-16-frame, property-17-frame, property-18-frame, child-18-frame, binding-19-frame}
+use Rattle.scan.proofs.Frame.{schema-6-frame, type-7-frame, child-7-frame}
 use borrow.Author.Needs.{needs}
 use Rattle.scan.proofs.rows.row_breaks.Statement.{statement}
 use Rattle.scan.proofs.rows.row_breaks.Tie as tie
@@ -30,46 +30,10 @@ returns-6 : tie.Need-returns-6
 unfolding rowTest
 returns-6 c = rw (c .before .enum-told6 .given .1) (c .property-10 .ensures ∙ property-10-frame _ _ _ _ _ _ _ _ _ _)
 
-returns-7 : tie.Need-returns-7
-unfolding rowTest
-returns-7 c = rw (c .before .enum-told7 .given .1) (c .key-15 .ensures ∙ key-15-frame _ _ _ _ _ _ _ _ _ _)
-
-returns-8 : tie.Need-returns-8
-unfolding rowTest
-returns-8 c = rw (c .before .enum-told8 .given .1) (c .constraint-16 .ensures ∙ constraint-16-frame _ _ _ _ _ _ _ _ _ _)
-
-returns-9 : tie.Need-returns-9
-unfolding rowTest
-returns-9 c = rw (c .before .enum-told9 .given .1) (c .property-17 .ensures ∙ property-17-frame _ _ _ _ _ _ _ _ _ _)
-
-returns-10 : tie.Need-returns-10
-unfolding rowTest
-returns-10 c = rw (c .before .enum-told10 .given .1) (c .property-18 .ensures ∙ property-18-frame _ _ _ _ _ _ _ _ _ _)
-
-returns-11 : tie.Need-returns-11
-unfolding rowTest
-returns-11 c = rw (c .before .enum-told11 .given .1) (c .child-18 .ensures ∙ child-18-frame _ _ _ _ _ _ _ _ _ _)
-
-returns-12 : tie.Need-returns-12
-unfolding rowTest
-returns-12 c = rw (c .before .enum-told12 .given .1) (c .binding-19 .ensures ∙ binding-19-frame _ _ _ _ _ _ _ _ _ _)
-
 pub row-breaks-spec : {M : Type 1} → statement M
 row-breaks-spec =
     tie.close
     (tie.spec
-    (λ c. search needs)
-    (λ c κs. search needs)
-    (λ c. search needs)
-    (λ c κs. search needs)
-    (λ c. search needs)
-    (λ c κs. search needs)
-    (λ c. search needs)
-    (λ c κs. search needs)
-    (λ c. search needs)
-    (λ c κs. search needs)
-    (λ c. search needs)
-    (λ c κs. search needs)
     (λ c. search needs)
     (λ c κs. search needs)
     (λ c. search needs)
@@ -87,10 +51,4 @@ row-breaks-spec =
     returns-3
     returns-4
     returns-5
-    returns-6
-    returns-7
-    returns-8
-    returns-9
-    returns-10
-    returns-11
-    returns-12)
+    returns-6)

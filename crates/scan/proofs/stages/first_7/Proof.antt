@@ -1,23 +1,18 @@
-use native.Mathlib.Omega.{arith}
-use Rattle.csdl.specs.Model.{modelOf}
-use Rattle.csdl.specs.Form.{rule7}
-use Rattle.scan.specs.Rows.{rowTest}
-use Rattle.scan.specs.Stages.{lowestPlace}
-use Rattle.scan.proofs.Tables.{types-placed, children-placed, type-first, type-child}
+use Rattle.scan.proofs.Frame.{lowest-7-type, lowest-7-child}
 use borrow.Author.Needs.{needs}
 use Rattle.scan.proofs.stages.first_7.Statement.{statement}
 use Rattle.scan.proofs.stages.first_7.Tie as tie
 
 returns : tie.Need-returns
-unfolding lowestPlace rule7 rowTest modelOf
-returns c = type-first _ _ _ (types-placed _ _ (c .before .before .before .schema-count .ensures .0) (c .before .before .type-count .ensures .0) (c .before .first-row .ensures)) (c .if1 .taken)
+returns c bi sg =
+    let a = c .before .before .before .before .before .before .before .before .before .before .before .args in
+    lowest-7-type (a .schemas .now) (a .types .now) (a .properties .now) (a .keys .now) (a .constraints .now) (a .children .now) bi sg (a .names .now) _ _ _ (c .before .before .before .schema-count .ensures .0) (c .before .before .type-count .ensures .0) (c .before .first-row .ensures) (c .if1 .taken)
 
 returns-2 : tie.Need-returns-2
-unfolding lowestPlace rule7 rowTest modelOf
-returns-2 c = type-child _ _ _ (types-placed _ _ (c .before .before .before .before .before .before .schema-count .ensures .0) (c .before .before .before .before .before .type-count .ensures .0) (c .before .before .before .before .first-row .ensures)) (c .before .before .before .if1 .left) (children-placed _ _ (c .before .before .children-at .ensures .0) (c .before .child-count .ensures .0) (c .first-row2 .ensures))
-
-first-row-requires-2 : tie.Need-first-row-requires-2
-first-row-requires-2 c κs = (c .before .before .before .before .before .before .before .before .before .before .before .before .before .before .before .before .pre, (omega arith, omega arith))
+returns-2 c bi sg =
+    let e = c .before .before .before in
+    let a = e .before .before .before .before .before .before .before .before .before .before .before .args in
+    lowest-7-child (a .schemas .now) (a .types .now) (a .properties .now) (a .keys .now) (a .constraints .now) (a .children .now) bi sg (a .names .now) _ _ _ (e .before .before .before .schema-count .ensures .0) (e .before .before .type-count .ensures .0) (e .before .first-row .ensures) _ _ _ (e .if1 .left) (c .before .before .children-at .ensures .0) (c .before .child-count .ensures .0) (c .first-row2 .ensures)
 
 pub first-7-spec : {M : Type 1} → statement M
 first-7-spec =
@@ -29,5 +24,5 @@ first-7-spec =
     returns
     (λ c κs. search needs)
     (λ c κs. search needs)
-    first-row-requires-2
+    (λ c κs. search needs)
     returns-2)

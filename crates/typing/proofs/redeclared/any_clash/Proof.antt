@@ -8,7 +8,7 @@ use Rattle.csdl.specs.Model.{modelOf}
 use Rattle.csdl.proofs.Logic.{any-of}
 use Rattle.lookup.specs.Index.{nameOf, Indexed}
 use Rattle.lookup.proofs.Looking.{remaining, on-start, on-below, on-less, Searched, searched-start, searched-next, searched-end}
-use Rattle.typing.specs.Steps.{clash}
+use Rattle.typing.specs.Clashes.{clash}
 use Rattle.typing.proofs.Named.{clash-named}
 use borrow.Author.Needs.{needs}
 use Rattle.typing.proofs.redeclared.any_clash.Statement.{statement}

@@ -2,7 +2,7 @@ use borrow.Author.Tests.{not-true, not-false}
 use Rattle.csdl.specs.Model.{modelOf}
 use Rattle.csdl.specs.Find.{ancestor}
 use Rattle.csdl.specs.Properties as rules
-use Rattle.typing.specs.Steps.{clash}
+use Rattle.typing.specs.Clashes.{clash}
 use borrow.Author.Needs.{needs}
 use Rattle.typing.proofs.redeclared.clashes.Statement.{statement}
 use Rattle.typing.proofs.redeclared.clashes.Tie as tie

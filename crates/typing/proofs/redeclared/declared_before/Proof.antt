@@ -9,7 +9,7 @@ use Rattle.csdl.specs.Properties as rules
 use Rattle.csdl.proofs.Logic.{any-of}
 use Rattle.lookup.specs.Index.{nameOf, Indexed}
 use Rattle.lookup.proofs.Looking.{remaining, on-start, on-below, on-less, Searched, searched-start, searched-next, searched-end}
-use Rattle.typing.specs.Steps.{repeated}
+use Rattle.typing.specs.Clashes.{repeated}
 use Rattle.typing.proofs.Named.{repeated-named}
 use borrow.Author.Needs.{needs}
 use Rattle.typing.proofs.redeclared.declared_before.Statement.{statement}

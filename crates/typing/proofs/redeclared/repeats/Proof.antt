@@ -1,6 +1,6 @@
 use Rattle.csdl.specs.Model.{modelOf}
 use borrow.Author.Tests.{eq-eqb, ne-eqb}
-use Rattle.typing.specs.Steps.{repeated}
+use Rattle.typing.specs.Clashes.{repeated}
 use borrow.Author.Needs.{needs}
 use Rattle.typing.proofs.redeclared.repeats.Statement.{statement}
 use Rattle.typing.proofs.redeclared.repeats.Tie as tie

@@ -6,8 +6,8 @@ use Rattle.csdl.specs.Search.{anyFrom}
 use Rattle.csdl.specs.Model.{modelOf}
 use Rattle.csdl.specs.Find.{ancestor}
 use Rattle.lines.specs.Sets.{member}
-use Rattle.typing.specs.Steps.{clash}
-use Rattle.typing.proofs.Steps.{clash-any, clash-none}
+use Rattle.typing.specs.Clashes.{clash}
+use Rattle.typing.proofs.Clashes.{clash-any, clash-none}
 use borrow.Author.Needs.{needs}
 use Rattle.typing.proofs.redeclared.wrongly_redeclared.Statement.{statement}
 use Rattle.typing.proofs.redeclared.wrongly_redeclared.Tie as tie

@@ -1,0 +1,4 @@
+pub mod Frame
+pub mod Gather
+pub mod Rounds
+pub mod Steps

@@ -1,0 +1,3 @@
+// Rule 12: no type reaches itself by required steps.
+pub mod cycles;
+pub mod required;

@@ -1,0 +1,14 @@
+-- A part of the definition of rule 21, as a function of the check answers it.
+use Prim.Native.Nat.{ℕ}
+use mathlib.Core.Bool.{Bool, not, _||_}
+use lib.Dec.{eqb, ltb}
+use Rattle.csdl.specs.Model.{Model}
+use Rattle.csdl.specs.Form.{run4cd}
+use Rattle.csdl.specs.Instance.{Instance}
+use Rattle.csdl.specs.Conforms.{countUnlike}
+
+-- 21b of a slot, but for the nodes whose run has it.
+unfoldable pub slotForm : Model → Instance → ℕ → Bool
+slotForm m i s =
+    not (eqb (i .slotSpare s) 0) || not (ltb (i .slotProperty s) (m .properties)) || eqb (i .state s) 3 || countUnlike i s
+    || run4cd (i .items) (i .slotItems s)
