@@ -2,7 +2,7 @@
 """Makes the images that the program `cases` runs, and the sheet of verdicts, from the texts of this folder.
 
     python3 cases/make.py                  write crates/cases/data, crates/cases/stdout, crates/mark/stdin and stdout,
-                                           crates/explain/stdin and crates/explanations/data
+                                           crates/explain/stdin and data
     python3 cases/make.py --check          write nothing; fail if one of these files is not what the texts say
     python3 cases/make.py --image NAME     write the image of one case to standard output (for `mark`, or a hex dump)
     python3 cases/make.py --list           print the name, the verdict and the reason of each case
@@ -20,8 +20,8 @@ ROOT = os.path.dirname(HERE)
 # The example whose image is the standard input of `mark` and `explain`.
 EXAMPLE = "a-worked-example"
 
-# The names of the cases whose images the program `explanations` explains.
-EXPLAINED = "crates/explanations/args"
+# The arguments of the program `explain`: the names of cases whose images it explains, and - for its standard input.
+EXPLAINED = "crates/explain/args"
 
 PRIMITIVES = ("Binary Boolean Byte Date DateTimeOffset Decimal Double Duration Guid Int16 Int32 Int64 SByte Single "
               "Stream String TimeOfDay").split()
@@ -676,7 +676,8 @@ def outputs():
     out["crates/mark/stdout"] = mark_lines(sections[EXAMPLE], Model(sections[EXAMPLE].lines))
     out["crates/explain/stdin"] = files["models/" + EXAMPLE]
     for name in open(os.path.join(ROOT, EXPLAINED)).read().split():
-        out["crates/explanations/data/" + name] = files["models/" + name]
+        if name != "-":
+            out["crates/explain/data/" + name] = files["models/" + name]
     return sections, files, runs, out
 
 
@@ -711,7 +712,7 @@ def main(arguments):
         for r in runs:
             print(f"{r.name:<42}{r.verdict:<26}{sections[r.name].told.get('why', '')}")
         return
-    extra = (stored("crates/cases/data") | stored("crates/explanations/data")) - set(out)
+    extra = (stored("crates/cases/data") | stored("crates/explain/data")) - set(out)
     if arguments == ["--check"]:
         wrong = sorted(extra)
         for name, data in out.items():

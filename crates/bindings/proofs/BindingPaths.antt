@@ -10,7 +10,7 @@ use Rattle.csdl.specs.Paths.{crosses, binding19abc, binding19d, binding19e, bin
 use Rattle.trail.specs.Coded.{Coded}
 use Rattle.trail.proofs.Reading.{cast-steps, target-steps, binding-steps, end-steps}
 use Rattle.trail.proofs.Runs.{run-codes}
-use Rattle.paths.specs.Steps.{stepTest}
+use Rattle.pathsteps.specs.Steps.{stepTest}
 use Rattle.bindings.specs.Runs.{pathRun, runEnd}
 use Rattle.bindings.specs.Bindings.{bindingCodes, targetCodes, endsApart, bindingCoded}
 

@@ -18,7 +18,7 @@ use Rattle.trail.specs.Coded.{Coded}
 use Rattle.trail.proofs.Laws.{last-tab, any-same}
 use Rattle.trail.proofs.Reading.{find-le, steps-list, is-steps, last-is, last-number}
 use Rattle.trail.proofs.Runs.{run-codes}
-use Rattle.paths.specs.Steps.{stepTest}
+use Rattle.pathsteps.specs.Steps.{stepTest}
 use Rattle.bindings.specs.Runs.{pathRun}
 use Rattle.bindings.specs.Partners.{partnerLast, partnerCodes, otherPartner, containedPartner, otherContains, sharedContainment, partnerEnds, partnerCoded}
 

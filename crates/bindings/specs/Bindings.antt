@@ -11,8 +11,8 @@ use Rattle.csdl.specs.Path.{pathOf, segmentsOf, sameSegments}
 use Rattle.csdl.specs.Path.Kind.{binding, target}
 use Rattle.csdl.specs.Paths.{crosses, binding19d, binding19e}
 use Rattle.trail.specs.Trail.{castCode, lastName, formOf}
-use Rattle.paths.specs.declared.steps.StepTest.the-variants.{NoTargetStep, NoContainment}
-use Rattle.paths.specs.Steps.{stepOrEnd}
+use Rattle.pathsteps.specs.declared.StepTest.the-variants.{NoTargetStep, NoContainment}
+use Rattle.pathsteps.specs.Steps.{stepOrEnd}
 use Rattle.bindings.specs.Runs.{pathRun, runEnd}
 
 -- 19a to 19c, of the n codes of a path.

@@ -9,8 +9,8 @@ use Rattle.csdl.specs.Find.{isAt, top}
 use Rattle.csdl.specs.Path.{pathOf}
 use Rattle.csdl.specs.Path.Kind.{partner}
 use Rattle.trail.specs.Trail.{isCode, numberOf, lastCode}
-use Rattle.paths.specs.declared.steps.StepTest.the-variants.{Navigates}
-use Rattle.paths.specs.Steps.{stepTest, anyCode}
+use Rattle.pathsteps.specs.declared.StepTest.the-variants.{Navigates}
+use Rattle.pathsteps.specs.Steps.{stepTest, anyCode}
 use Rattle.bindings.specs.Runs.{pathRun}
 
 -- The code of the last step of the partner path of p; that of a cast where it has none.

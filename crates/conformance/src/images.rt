@@ -9,7 +9,7 @@ ghost use Rattle.csdl.specs.Verdict.{instanceMeans, verdict};
 ghost use Rattle.csdl.specs.Verdict.Answer.{accepted};
 ghost use Rattle.csdl.specs.Verdict.Stage.{whole};
 use csdl::InstanceAnswer;
-use instance::check::first_broken;
+use instance::first_broken;
 use nodes::image::bad_instance;
 use parts::instance::items_of;
 use parts::instance::nodes_of;

@@ -35,7 +35,10 @@ fn is_letter(c: u8) -> bool
 fn is_word_byte(c: u8) -> bool
     ensures { λ r. ⌜ r ≡ rules.isWordByte c ⌝ }
 {
-    is_letter(c) | is_digit(c) | (c == 95)
+    if is_letter(c) {
+        return true;
+    }
+    is_digit(c) | (c == 95)
 }
 
 fn all_word_bytes(s: &[u8]) -> bool

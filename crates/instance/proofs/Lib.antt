@@ -1,4 +1,1 @@
-pub mod Climbing
-pub mod Marking
-pub mod Bridge
 pub mod Stages

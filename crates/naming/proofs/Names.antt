@@ -13,7 +13,7 @@ use Rattle.csdl.specs.Verdict.{verdict}
 use Rattle.csdl.specs.Naming.{noName, nameHeld, recordName, nameOfRecord}
 use Rattle.csdl.specs.declared.Record.{Record}
 use Rattle.csdl.specs.declared.Record.the-variants.{OfSchema, OfType, OfProperty, OfKey, OfConstraint, OfChild, OfBinding, OfSegment, Nowhere}
-use Rattle.trail.proofs.Past.{field-past}
+use Rattle.packed.proofs.Laws.{field-past}
 use Rattle.form.proofs.Parts.{layout, counts}
 use Rattle.parts.specs.Tables.{namesIn}
 use Rattle.places.specs.Stages.{formed}

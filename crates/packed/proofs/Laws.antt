@@ -3,11 +3,11 @@ use mathlib.Core.Path.{_≡_, refl, sym, ap, _∙_}
 use mathlib.Core.List.{List, [], _∷_}
 use mathlib.Core.Bool.{Bool, true, false, _&&_, and-false, false≢true}
 use Prim.Native.Nat.{ℕ, zero, suc, _+_, _-_, _*_, _/_, _%_, _^_, _≤_, _<_}
-use native.Mathlib.Nat.{add-zero, add-suc, add-assoc, mul-one, one-mul, mul-assoc, pow-zero, pow-suc, mod-one, mod-eq-of-lt, div-one}
+use native.Mathlib.Nat.{add-zero, add-suc, add-assoc, mul-one, one-mul, mul-assoc, pow-zero, pow-suc, mod-one, mod-eq-of-lt, div-one, zero-div}
 use native.Mathlib.Numerals.{add-one}
 use native.Mathlib.Omega.{arith}
 use lib.Dec.{eqb, eqb·zero-suc, eqb·suc-zero, eqb·suc-suc}
-use lib.ListN.{length, getD, take, drop, length-drop, drop-of-length-le}
+use lib.ListN.{length, getD, take, drop, length-drop, drop-of-length-le, List·getD-eq-default}
 use lib.Seq.{getD-take, getD-drop, drop-cons, take-all, take-nil}
 use lib.Pow.{mod-pow-add, shr-shr, shl-exact, high, low}
 use borrow.Author.Tests.{eqb-true, eqb-false, eq-eqb, ne-eqb}
@@ -30,6 +30,18 @@ field-suc s off w = refl
 pub field-lt : (s : List ℕ) (off w : ℕ) → fieldOf s off w < 2 ^ w
 field-lt s off zero = rw (field-zero, pow-zero) (omega arith)
 field-lt s off (suc w) = rw (field-suc, pow-suc) (omega (arith, field-lt s off w, bit-lt s (off + w)))
+
+-- past the end all bits are 0
+bit-past : (s : List ℕ) (k : ℕ) → 8 * length s ≤ k → bit s k ≡ 0
+unfolding bit
+bit-past s k h =
+    let l : length s ≤ k / 8 = omega arith in
+    let e : getD s (k / 8) 0 ≡ 0 = List·getD-eq-default s 0 l in
+    rw (e, zero-div)
+
+pub field-past : (s : List ℕ) (off w : ℕ) → 8 * length s ≤ off → fieldOf s off w ≡ 0
+field-past s off zero h = field-zero s off
+field-past s off (suc w) h = rw (field-suc, field-past s off w h, bit-past s (off + w) (omega arith))
 
 -- a field of w + n bits is one of w bits and then one of n
 pub field-add : (s : List ℕ) (off w n : ℕ) → fieldOf s off (w + n) ≡ fieldOf s off w * 2 ^ n + fieldOf s (off + w) n

@@ -10,7 +10,7 @@ use Rattle.csdl.specs.Paths.{hasCast, lastProperty, keyStep, keyEnd, key15a, ke
 use Rattle.trail.specs.Coded.{Coded, runOf}
 use Rattle.trail.proofs.Runs.{run-codes}
 use Rattle.trail.proofs.Reading.{cast-steps, other-steps, last-other, last-is, last-number}
-use Rattle.paths.specs.Steps.{stepTest}
+use Rattle.pathsteps.specs.Steps.{stepTest}
 use Rattle.paths.specs.Keys.{keyCodes, keyCoded}
 use Rattle.paths.specs.Constraints.{otherShape, otherNullable, constraintEnds, constraintCodes, constraintFails, constraintEnd, constraintCoded}
 use Rattle.paths.proofs.Orders.{two-paths}

@@ -9,8 +9,8 @@ use Rattle.csdl.specs.Model.{Model}
 use Rattle.csdl.specs.Paths.{sameShape, bothComplex}
 use Rattle.trail.specs.Trail.{castCode, lastCode, numberOf}
 use Rattle.trail.specs.Coded.{runOf}
-use Rattle.paths.specs.declared.steps.StepTest.the-variants.{NoConstraintStep, Navigates}
-use Rattle.paths.specs.Steps.{stepOrEnd}
+use Rattle.pathsteps.specs.declared.StepTest.the-variants.{NoConstraintStep, Navigates}
+use Rattle.pathsteps.specs.Steps.{stepOrEnd}
 
 -- 16e
 unfoldable pub otherShape : Model → ℕ → ℕ → Bool

@@ -10,8 +10,8 @@ use Rattle.csdl.specs.Model.{Model}
 use Rattle.csdl.specs.Paths.{keyName, key15a, key15b, key15f, key15g, key15h}
 use Rattle.trail.specs.Trail.{castCode}
 use Rattle.trail.specs.Coded.{runOf}
-use Rattle.paths.specs.declared.steps.StepTest.the-variants.{NoKeyStep, NoKeyEnd}
-use Rattle.paths.specs.Steps.{stepOrEnd}
+use Rattle.pathsteps.specs.declared.StepTest.the-variants.{NoKeyStep, NoKeyEnd}
+use Rattle.pathsteps.specs.Steps.{stepOrEnd}
 
 -- Keys j and k have the same owner and name.
 unfoldable pub againNamed : Model → ℕ → ℕ → Bool

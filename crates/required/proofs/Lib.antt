@@ -2,3 +2,4 @@ pub mod Frame
 pub mod Gather
 pub mod Rounds
 pub mod Steps
+pub mod Closing

@@ -21,42 +21,16 @@ tab-at f n k h = let e : 0 + k ≡ k = omega arith in rw e at (tab-from f n 0 k 
 
 module _ (step : ℕ → ℕ → Bool) (n a : ℕ) where
   -- Whether b is reached after k further rounds.
-  abbrev pub reached : ℕ → ℕ → Bool
+  abbrev reached : ℕ → ℕ → Bool
   reached k b = getD (rounds step n a k) b false
 
-  pub round-none : (b : ℕ) → b < n → reached 0 b ≡ step a b
+  round-none : (b : ℕ) → b < n → reached 0 b ≡ step a b
   unfolding rounds
   round-none b h = tab-at (step a) n b h
 
   round-more : (k b : ℕ) → b < n → reached (suc k) b ≡ reached k b || anyFrom (λ c. reached k c && step c b) 0 n
   unfolding rounds
   round-more k b h = tab-at (λ b. reached k b || anyFrom (λ c. reached k c && step c b) 0 n) n b h
-
-  -- One round from a set that has what is reached after k rounds.
-  pub round-of : (has : ℕ → Bool) (k : ℕ) → ((b : ℕ) → b < n → has b ≡ reached k b)
-      → (b : ℕ) → b < n → has b || anyFrom (λ c. has c && step c b) 0 n ≡ reached (k + 1) b
-  round-of has k all b h =
-      rw (add-one k)
-      (ap₂ _||_ (all b h) (any-same (λ c. has c && step c b) (λ c. reached k c && step c b) 0 n (λ c a l. rw (all c (omega arith))))
-      ∙ sym (round-more k b h))
-
-  settled : (k : ℕ) → ((b : ℕ) → b < n → reached (k + 1) b ≡ reached k b) → (j b : ℕ) → b < n → reached (k + j) b ≡ reached k b
-  settled k same zero b h = rw add-zero
-  settled k same (suc j) b h =
-      let e : k + suc j ≡ k + j + 1 = omega arith in
-      rw e (sym (round-of (reached k) (k + j) (λ c l. sym (settled k same j c l)) b h) ∙ round-of (reached k) k (λ c l. refl) b h ∙ same b h)
-
-  -- After n rounds, and after a round that adds nothing, the set has all that is reached.
-  pub round-end : (has : ℕ → Bool) (k : ℕ) → k ≤ n → n ≤ k → ((b : ℕ) → b < n → has b ≡ reached k b) → (b : ℕ) → b < n → has b ≡ reaches step n a b
-  unfolding reaches
-  round-end has k l m all b h = let e : n ≡ k = omega arith in all b h ∙ ap (λ j. reached j b) (sym e)
-
-  pub round-still : (has : ℕ → Bool) (k : ℕ) → k ≤ n → ((b : ℕ) → b < n → has b ≡ reached k b)
-      → ((b : ℕ) → b < n → has b ≡ has b || anyFrom (λ c. has c && step c b) 0 n) → (b : ℕ) → b < n → has b ≡ reaches step n a b
-  unfolding reaches
-  round-still has k l all still b h =
-      let e : k + (n - k) ≡ n = omega arith in
-      all b h ∙ sym (rw e at (settled k (λ c i. sym (still c i ∙ round-of has k all c i) ∙ all c i) (n - k) b h))
 
 -- Steps that agree below n.
 pub rounds-same : (f g : ℕ → ℕ → Bool) (n a : ℕ) → a < n → ((x y : ℕ) → x < n → y < n → f x y ≡ g x y)

@@ -1,62 +1,65 @@
-// Reaching by steps, over a list of sets: row a has the numbers that a steps to. The rounds are those of the definition.
+// Reaching by steps, over a list of sets: row a has the numbers that a steps to. Every row goes through one number after the other: once it has
+// gone through those below c, row a has what is reached from a through numbers below c.
 ghost use mathlib.Core.Path.{_≡_};
 ghost use mathlib.Core.Bool.{_||_, _&&_};
 ghost use Prim.Native.Nat.{_≤_, _<_};
 ghost use lib.ListN.{length};
-ghost use Rattle.csdl.specs.Search.{anyFrom};
 ghost use Rattle.csdl.specs.Climb.{reaches};
 ghost use Rattle.lines.specs.Sets.{member, Holds, setOf, stepOf};
+ghost use Rattle.required.specs.Closing.{Through, Closed};
 use lines::sets::in_set;
 use lines::sets::mark_of;
 
-// The set `all`, and row c where c is in `row`.
-fn with_row(rows: &[u64], row: u64, all: u64, c: u16) -> u64
+// The row, and row c where c is in it.
+fn with_row(rows: &[u64], row: u64, c: u16) -> u64
     requires { ⌜ (length (now rows) ≡ 64) × (c < 64) ⌝ }
-    ensures { λ r. ⌜ Holds 64 r (λ b. member all b || (member row c && stepOf (now (rows .entry)) c b)) ⌝ }
+    ensures { λ r. ⌜ Holds 64 r (λ b. member row b || (member row c && stepOf (now (rows .entry)) c b)) ⌝ }
 {
     if in_set(row, c) {
-        return all | rows[c as usize];
-    }
-    all
-}
-
-// One round: the set, and what its numbers below n step to.
-fn grown(rows: &[u64], n: u16, row: u64) -> u64
-    requires { ⌜ (length (now rows) ≡ 64) × (n ≤ 64) ⌝ }
-    ensures { λ r. ⌜ Holds 64 r (λ b. member row b || anyFrom (λ c. member row c && stepOf (now (rows .entry)) c b) 0 n) ⌝ }
-{
-    let mut all = row;
-    for c in 0..n {
-        all = with_row(rows, row, all, c);
-    }
-    all
-}
-
-// What a reaches in one or more steps.
-fn reached_from(rows: &[u64], n: u16, a: u16) -> u64
-    requires { ⌜ (length (now rows) ≡ 64) × (n ≤ 64) × (a < 64) ⌝ }
-    ensures { λ r. ⌜ Holds n r (λ b. reaches (stepOf (now (rows .entry))) n a b) ⌝ }
-{
-    let mut row = rows[a as usize];
-    for k in 0..n {
-        let next = grown(rows, n, row);
-        if next == row {
-            return row;
-        }
-        row = next;
+        return row | rows[c as usize];
     }
     row
 }
 
-// The numbers below n that reach themselves.
-pub fn on_cycles(rows: &[u64], n: u16) -> u64
+// The rows below n go through c too.
+fn go_through(rows: &mut [u64], n: u16, c: u16)
+    requires { ⌜ (length (now rows) ≡ 64) × (n ≤ 64) × (c < n) ⌝ }
+    ensures { λ r. ⌜ Through n c (now (rows .entry)) (now (rows .exit)) ⌝ }
+{
+    for a in 0..n {
+        let row = with_row(rows, rows[a as usize], c);
+        rows[a as usize] = row;
+    }
+}
+
+// The rows below n get what their numbers reach in one or more steps.
+fn close_rows(rows: &mut [u64], n: u16)
     requires { ⌜ (length (now rows) ≡ 64) × (n ≤ 64) ⌝ }
-    ensures { λ r. ⌜ r ≡ setOf (λ a. reaches (stepOf (now (rows .entry))) n a a) n ⌝ }
+    ensures { λ r. ⌜ Closed n (now (rows .entry)) (now (rows .exit)) ⌝ }
+{
+    for c in 0..n {
+        go_through(rows, n, c);
+    }
+}
+
+// The numbers below n that are in their own row.
+fn in_own_row(rows: &[u64], n: u16) -> u64
+    requires { ⌜ (length (now rows) ≡ 64) × (n ≤ 64) ⌝ }
+    ensures { λ r. ⌜ r ≡ setOf (λ a. stepOf (now (rows .entry)) a a) n ⌝ }
 {
     let mut set: u64 = 0;
     for a in 0..n {
-        let found = in_set(reached_from(rows, n, a), a);
+        let found = in_set(rows[a as usize], a);
         set = set | (mark_of(found) << a);
     }
     set
+}
+
+// The numbers below n that reach themselves.
+pub fn on_cycles(rows: &mut [u64], n: u16) -> u64
+    requires { ⌜ (length (now rows) ≡ 64) × (n ≤ 64) ⌝ }
+    ensures { λ r. ⌜ r ≡ setOf (λ a. reaches (stepOf (now (rows .entry))) n a a) n ⌝ }
+{
+    close_rows(rows, n);
+    in_own_row(rows, n)
 }

@@ -78,8 +78,8 @@ pub fn types_on_cycles(types: &[u8], properties: &[u8]) -> u64
     requires { ⌜ (length (now types) ≤ 384) × (length (now properties) ≤ 3584) ⌝ }
     ensures { λ r. ⌜ r ≡ cyclic (modelOf [] (now (types .entry)) (now (properties .entry)) [] [] [] [] [] []) ⌝ }
 {
-    let rows = step_rows(types, properties);
-    on_cycles(&rows, type_count(types))
+    let mut rows = step_rows(types, properties);
+    on_cycles(&mut rows, type_count(types))
 }
 
 // Whether the type breaks rule 12; `cycles` is what `types_on_cycles` gave.

@@ -7,7 +7,7 @@ use Rattle.csdl.specs.Find.{ofKind, find, own, declares, isAt, ancestor, top, c
 use Rattle.csdl.specs.Path.{segmentAt, pathOf, startOf}
 use Rattle.csdl.specs.Paths.{keyType, keyStep, keyEnd, keyName, key15b, key15g, constraintStep, sameShape, bothComplex, property18a, child18, crosses, binding19d, targetStep}
 use Rattle.trail.specs.Trail.{codeTo, codeEnd}
-use Rattle.paths.specs.Steps.{stepTest}
+use Rattle.pathsteps.specs.Steps.{stepTest}
 use Rattle.paths.specs.Keys.{keyCodes, keyCoded}
 use Rattle.paths.specs.Constraints.{otherShape, otherNullable, constraintEnds, constraintCodes, constraintFails, constraintCoded}
 use Rattle.bindings.specs.Partners.{partnerLast, partnerCodes, otherPartner, containedPartner, otherContains, sharedContainment, partnerEnds, partnerCoded}

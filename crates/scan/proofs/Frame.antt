@@ -14,7 +14,8 @@ use Rattle.csdl.specs.Form.{schema6, sharesName, namesSchema, type7a, sameType,
 use Rattle.csdl.specs.Types.{type8, type9}
 use Rattle.csdl.specs.Properties.{property10, property11, type12}
 use Rattle.csdl.specs.Paths.{segment13}
-use Rattle.typing.proofs.Frame.{type-8-frame, type-9-frame, property-10-frame, property-11-frame}
+use Rattle.typing.proofs.Frame.{type-8-frame, type-9-frame, property-10-frame}
+use Rattle.redeclared.proofs.Frame.{property-11-frame}
 use Rattle.required.proofs.Frame.{type-12-frame}
 use Rattle.places.specs.Shifted.{shifted}
 use Rattle.places.specs.Stages.{formRule, ruleNo, lowestPlace}

@@ -13,10 +13,10 @@ ghost use Rattle.scan.specs.Rows.{rowTest};
 use identifiers::repeats::child_7;
 use identifiers::repeats::type_7;
 use identifiers::schemas::schema_6;
+use redeclared::property_11;
 use required::required::type_12;
 use required::required::types_on_cycles;
 use typing::properties::property_10;
-use typing::redeclared::property_11;
 use typing::types::type_8;
 use typing::types::type_9;
 

@@ -10,19 +10,11 @@ use lib.ListN.{length, length-take, length-drop, List·getD-eq-default}
 use borrow.Author.Tests.{eqb-true, not-false}
 use Rattle.packed.specs.Field.{bit, fieldOf}
 use Rattle.packed.specs.Bytes.{between}
-use Rattle.packed.proofs.Laws.{field-zero, field-suc, field-lt}
+use Rattle.packed.proofs.Laws.{field-lt, field-past}
 use Rattle.csdl.specs.Model.{modelOf}
 use Rattle.csdl.specs.Image.{modelIn, header, typesFrom, propertiesFrom, imageEnd, image1, image1a, image1b, image1c, image1d}
 use Rattle.csdl.specs.Instance.{instanceOf, instanceIn}
 use Rattle.csdl.proofs.Logic.{or-no}
-
-bit-past : (s : List ℕ) (k : ℕ) → 8 * length s ≤ k → bit s k ≡ 0
-unfolding bit
-bit-past s k h = let l : length s ≤ k / 8 = omega arith in rw (List·getD-eq-default s 0 l, zero-div)
-
-field-past : (s : List ℕ) (off w : ℕ) → 8 * length s ≤ off → fieldOf s off w ≡ 0
-field-past s off zero h = field-zero s off
-field-past s off (suc w) h = rw (field-suc, field-past s off w h, bit-past s (off + w) (omega arith))
 
 -- Past the types' table a base reads 0.
 pub base-past : (image : List ℕ) → image1 image ≡ false → (t : ℕ) → modelIn image .types ≤ t → modelIn image .base t ≡ 0

@@ -11,7 +11,7 @@ use Rattle.csdl.specs.Search.{firstFrom}
 use Rattle.csdl.specs.Model.{modelOf}
 use Rattle.csdl.specs.Instance.{instanceOf, nodeSlotsIn}
 use Rattle.csdl.specs.Walk.{slotNamed}
-use Rattle.trail.proofs.Past.{field-past}
+use Rattle.packed.proofs.Laws.{field-past}
 use Rattle.step.specs.Seen.{hasName}
 
 -- The first j numbers of the run do not pass.

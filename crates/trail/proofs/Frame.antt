@@ -8,7 +8,7 @@ use lib.ListN.{length}
 use Rattle.csdl.specs.Search.{tab}
 use Rattle.csdl.specs.Model.{modelOf}
 use Rattle.csdl.specs.Find.{structured, isAt, ancestor, find, own, declares}
-use Rattle.csdl.specs.Path.{Segment, segmentAt, stepAt, movesTo, resolvesAt, resolves, endOf, alongAll, alongEnd, Kind, pathOf, startOf}
+use Rattle.csdl.specs.Path.{Segment, segmentAt, stepAt, movesTo, resolvesAt, resolves, endOf, alongAll, alongEnd}
 use Rattle.csdl.specs.Path.Segment.{name, cast}
 use Rattle.trail.specs.Trail.{TrailOf, prefix, stepNo, codeAt}
 
@@ -26,10 +26,6 @@ all-same ok ok2 to to2 seg seg2 o e f t i (suc n) =
     rw (f i, e t (seg2 i), o t (seg2 i), all-same ok ok2 to to2 seg seg2 o e f (to2 t (seg2 i)) (i + 1) n)
 
 module _ (sc ty pr ke co ch bi sg nm : List ℕ) where
-  pub segment-frame : (g : ℕ) → segmentAt (modelOf [] [] [] [] [] [] [] sg nm) g ≡ segmentAt (modelOf sc ty pr ke co ch bi sg nm) g
-  unfolding modelOf segmentAt
-  segment-frame g = refl
-
   module _ (t : ℕ) where
     pub resolves-at-frame : (s2 : List ℕ) (g : Segment) → resolvesAt (modelOf [] ty pr [] [] [] [] s2 nm) t g ≡ resolvesAt (modelOf sc ty pr ke co ch bi sg nm) t g
     unfolding modelOf resolvesAt structured isAt ancestor find own declares
@@ -73,13 +69,6 @@ module _ (sc ty pr ke co ch bi sg nm : List ℕ) where
           reach = λ k h. sym (resolves-frame k) ∙ t .reach k h;
           goal = t .goal ∙ end-frame count;
         }
-
-  -- the trail of the path of a kind that record r holds
-  pub path-trail : (w : Kind) (r : ℕ) {start first count : ℕ} {codes : List ℕ} {taken end : ℕ} → TrailOf (modelOf [] ty pr [] [] [] [] sg nm) start first count codes taken end
-      → start ≡ startOf (modelOf sc ty pr ke co ch bi sg nm) w r → first ≡ pathOf (modelOf sc ty pr ke co ch bi sg nm) w r .first
-      → count ≡ pathOf (modelOf sc ty pr ke co ch bi sg nm) w r .count
-      → TrailOf (modelOf sc ty pr ke co ch bi sg nm) (startOf (modelOf sc ty pr ke co ch bi sg nm) w r) (pathOf (modelOf sc ty pr ke co ch bi sg nm) w r .first) (pathOf (modelOf sc ty pr ke co ch bi sg nm) w r .count) codes taken end
-  path-trail w r {start} {first} {count} {codes} {taken} {end} t e f g = rw (← e, ← f, ← g) (trail-frame start first count codes taken end t)
 
   pub few-properties : length pr ≤ 3584 → modelOf sc ty pr ke co ch bi sg nm .properties ≤ 32768
   unfolding modelOf

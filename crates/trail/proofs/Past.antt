@@ -1,33 +1,20 @@
 -- Numbers past the tables: no base, no kind, no property of that owner. Assumes nothing.
-use Prim.Native.Nat.{ℕ, zero, suc, _+_, _-_, _*_, _/_, _%_, _^_, _≤_, _<_}
-use mathlib.Core.Path.{_≡_, refl, sym, _∙_}
+use Prim.Native.Nat.{ℕ, zero, suc, _+_, _-_, _*_, _/_, _≤_, _<_}
+use mathlib.Core.Path.{_≡_, refl, sym}
 use mathlib.Core.List.{List, []}
 use mathlib.Core.Bool.{Bool, true, false, cond}
-use native.Mathlib.Nat.{zero-div}
 use native.Mathlib.Omega.{arith}
 use lib.Dec.{eqb, ltb}
-use lib.ListN.{length, getD, List·getD-eq-default}
+use lib.ListN.{length}
 use borrow.Author.Tests.{eq-eqb, ne-eqb, le-ltb}
-use Rattle.packed.specs.Field.{bit, fieldOf}
-use Rattle.packed.proofs.Laws.{field-lt, field-suc}
+use Rattle.packed.specs.Field.{fieldOf}
+use Rattle.packed.proofs.Laws.{field-lt, field-past}
 use Rattle.csdl.specs.Tables.{typeBase}
 use Rattle.csdl.specs.Search.{firstFrom, orElse}
 use Rattle.csdl.specs.Climb.{climb, nearest}
 use Rattle.csdl.specs.Model.{modelOf, Model}
 use Rattle.csdl.specs.Find.{structured, isAt, ancestor, find, own, declares}
 use Rattle.lookup.proofs.Climb.{climb-none, nearest-none}
-
-bit-past : (s : List ℕ) (k : ℕ) → 8 * length s ≤ k → bit s k ≡ 0
-unfolding bit
-bit-past s k h =
-    let l : length s ≤ k / 8 = omega arith in
-    let e : getD s (k / 8) 0 ≡ 0 = List·getD-eq-default s 0 l in
-    rw (e, zero-div)
-
-pub field-past : (s : List ℕ) (off w : ℕ) → 8 * length s ≤ off → fieldOf s off w ≡ 0
-unfolding fieldOf
-field-past s off zero h = refl
-field-past s off (suc w) h = rw (field-past s off w h, bit-past s (off + w) (omega arith))
 
 base-past : (ty : List ℕ) (t : ℕ) → length ty ≤ 384 → 64 ≤ t → typeBase ty t ≡ 0
 base-past ty t l h = field-past ty (48 * t + 10) 7 (omega arith)

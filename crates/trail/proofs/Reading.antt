@@ -126,8 +126,6 @@ pub steps-list : (m : Model) (start first n : ℕ) → stepsOf m start (prefix m
 unfolding stepNo
 steps-list m start first n = steps-tab _ _ _ start first n
 
--- what segment g of the path resolves to, by its number in the path
-
 module _ (m : Model) (start first n : ℕ) (codes : List ℕ) (coded : (k : ℕ) → k < n → getD codes k 0 ≡ codeAt m start first k) (few : m .properties ≤ 32768) where
   no-small : (k : ℕ) → propertyOf (stepNo m start first k) < 32768
   unfolding stepNo

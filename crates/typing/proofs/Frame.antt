@@ -5,7 +5,7 @@ use mathlib.Core.List.{List, []}
 use Rattle.csdl.specs.Model.{modelOf}
 use Rattle.csdl.specs.Find.{ofKind, structured, ancestor}
 use Rattle.csdl.specs.Types.{type8, type9}
-use Rattle.csdl.specs.Properties.{streams, property10, sameName, redeclares, property11a, property11b, property11}
+use Rattle.csdl.specs.Properties.{streams, property10}
 
 module _ (sc ty pr ke co ch bi sg nm : List ℕ) where
   pub type-8-frame : (t : ℕ) → type8 (modelOf [] ty [] [] [] [] [] [] []) t ≡ type8 (modelOf sc ty pr ke co ch bi sg nm) t
@@ -19,11 +19,3 @@ module _ (sc ty pr ke co ch bi sg nm : List ℕ) where
   pub property-10-frame : (p : ℕ) → property10 (modelOf [] ty pr [] [] [] [] [] []) p ≡ property10 (modelOf sc ty pr ke co ch bi sg nm) p
   unfolding modelOf property10 streams ofKind structured
   property-10-frame p = refl
-
-  pub property-11a-frame : (p : ℕ) → property11a (modelOf [] [] pr [] [] [] [] [] nm) p ≡ property11a (modelOf sc ty pr ke co ch bi sg nm) p
-  unfolding modelOf property11a sameName
-  property-11a-frame p = refl
-
-  pub property-11-frame : (p : ℕ) → property11 (modelOf [] ty pr [] [] [] [] [] nm) p ≡ property11 (modelOf sc ty pr ke co ch bi sg nm) p
-  unfolding modelOf property11 property11a property11b sameName redeclares ancestor
-  property-11-frame p = refl

@@ -1,4 +1,2 @@
-pub mod Named
 pub mod Bools
 pub mod Frame
-pub mod Clashes

@@ -1,4 +1,3 @@
-// Rules 8 to 11: what a type and a property may be. Each function takes the tables that it needs.
+// Rules 8 to 10: what a type and a property may be. Each function takes the tables that it needs.
 pub mod properties;
-pub mod redeclared;
 pub mod types;

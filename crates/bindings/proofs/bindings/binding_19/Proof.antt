@@ -5,7 +5,7 @@ use Rattle.csdl.specs.Find.{isAt, ancestor, ofKind, complexStep, containStep}
 use Rattle.csdl.specs.Path.{segmentAt, pathOf, startOf}
 use Rattle.csdl.specs.Paths.{crosses, targetStep, binding19d}
 use Rattle.trail.specs.Trail.{codeTo, codeEnd}
-use Rattle.paths.specs.Steps.{stepTest}
+use Rattle.pathsteps.specs.Steps.{stepTest}
 use Rattle.bindings.specs.Bindings.{bindingCodes, targetCodes, endsApart, bindingCoded}
 use borrow.Author.Needs.{needs}
 use Rattle.bindings.proofs.bindings.binding_19.Statement.{statement}

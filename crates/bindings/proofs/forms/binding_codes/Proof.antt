@@ -4,7 +4,7 @@ use mathlib.Core.Bool.{not, _||_}
 use native.Mathlib.Omega.{arith}
 use Rattle.csdl.specs.Model.{modelOf}
 use Rattle.csdl.specs.Paths.{crosses}
-use Rattle.paths.specs.Steps.{stepTest}
+use Rattle.pathsteps.specs.Steps.{stepTest}
 use Rattle.bindings.specs.Bindings.{bindingCodes}
 use Rattle.bindings.proofs.LastName.{form-none, form-name}
 use borrow.Author.Needs.{needs}

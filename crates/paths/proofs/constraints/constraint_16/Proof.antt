@@ -1,7 +1,7 @@
 use Rattle.csdl.specs.Model.{modelOf}
 use Rattle.csdl.specs.Find.{complexStep, ofKind}
 use Rattle.csdl.specs.Paths.{constraintStep, sameShape, bothComplex}
-use Rattle.paths.specs.Steps.{stepTest}
+use Rattle.pathsteps.specs.Steps.{stepTest}
 use Rattle.paths.specs.Constraints.{otherShape, otherNullable, constraintEnds, constraintCodes, constraintFails, constraintEnd, constraintCoded}
 use borrow.Author.Needs.{needs}
 use Rattle.paths.proofs.constraints.constraint_16.Statement.{statement}

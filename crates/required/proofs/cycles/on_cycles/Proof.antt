@@ -1,54 +1,19 @@
-use Prim.Native.Nat.{_-_, _≤_}
-use mathlib.Core.Path.{_≡_, _∙_}
-use native.Mathlib.Omega.{arith}
-use lib.ListN.{length}
-use Rattle.csdl.specs.Climb.{reaches}
-use Rattle.lines.specs.Sets.{setOf, stepOf}
-use Rattle.lines.proofs.SetLaws.{set-start, set-next}
+use mathlib.Core.Path.{_∙_}
+use Rattle.lines.proofs.SetLaws.{set-same}
 use borrow.Author.Needs.{needs}
 use Rattle.required.proofs.cycles.on_cycles.Statement.{statement}
 use Rattle.required.proofs.cycles.on_cycles.Tie as tie
 
-abbrev Inv-loop : tie.InvT-loop
-Inv-loop rows n set₀ a₀ set a = (a ≤ n) × (n ≤ 64) × (length rows ≡ 64) × (set ≡ setOf (λ b. reaches (stepOf rows) n b b) a)
-
-abbrev μ-loop : tie.MeasureT-loop
-μ-loop rows n set₀ a₀ set a = n - a
-
-loop-holds : tie.Need-loop-holds Inv-loop μ-loop
-loop-holds c =
-    let a = c .before .args in
-    (search needs, search needs, search needs, set-start (λ b. reaches (stepOf (a .rows .now)) (a .n) b b))
-
-loop-again : tie.Need-loop-again Inv-loop μ-loop
-loop-again c =
-    let a = c .before .before .before .before .before .before .args in
-    let l = c .before .before .before .before .loop in (
-      search needs,
-      search needs,
-      search needs,
-      set-next (λ b. reaches (stepOf (a .rows .now)) (a .n) b b) (l .a) (c .before .in-set .result) (l .set) (c .mark-of .result) (omega arith) (l .inv .3)
-          (c .before .in-set .ensures ∙ c .before .before .reached-from .ensures (l .a) (omega arith)) (c .mark-of .ensures),
-    )
-
-returns : tie.Need-returns Inv-loop μ-loop
+returns : tie.Need-returns
 returns c =
-    let e : c .before .loop .a ≡ c .before .before .before .args .n = omega arith in
-    rw e at (c .before .loop .inv .3)
+    let closed = c .before .before .before .before .close-rows .ensures in
+    c .in-own-row .ensures ∙ set-same _ _ (c .before .before .before .before .before .before .before .args .n) (λ a h. closed .row a a h h)
 
 pub on-cycles-spec : {M : Type 1} → statement M
 on-cycles-spec =
     tie.close
     (tie.spec
-    Inv-loop
-    μ-loop
-    loop-holds
-    (λ c κs. search needs)
     (λ c κs. search needs)
     (λ c κs. search needs)
     (λ c. search needs)
-    (λ c. search needs)
-    (λ c. search needs)
-    (λ c. search needs)
-    loop-again
     returns)

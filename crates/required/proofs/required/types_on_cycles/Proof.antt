@@ -10,11 +10,11 @@ use Rattle.required.proofs.required.types_on_cycles.Tie as tie
 returns : tie.Need-returns
 unfolding modelOf
 returns c =
-    let a = c .before .before .before .before .before .before .args in
+    let a = c .before .before .before .before .before .before .before .args in
     let m = modelOf [] (a .types .now) (a .properties .now) [] [] [] [] [] [] in
-    let rows = c .before .before .before .step-rows in
-    let n = c .before .type-count in
-    c .on-cycles .ensures ∙ rw (n .ensures .0) (cyclic-rows m (rows .result) (omega arith) (rows .ensures .1))
+    let rows = c .before .before .before .before .step-rows in
+    let n = c .before .before .type-count in
+    c .before .on-cycles .ensures ∙ rw (n .ensures .0) (cyclic-rows m (rows .result) (omega arith) (rows .ensures .1))
 
 pub types-on-cycles-spec : {M : Type 1} → statement M
 types-on-cycles-spec =

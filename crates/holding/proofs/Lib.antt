@@ -1,0 +1,3 @@
+pub mod Climbing
+pub mod Marking
+pub mod Bridge

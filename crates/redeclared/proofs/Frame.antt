@@ -1,0 +1,16 @@
+-- Rule 11 at the tables that it reads, as at all nine. Assumes nothing.
+use Prim.Native.Nat.{ℕ}
+use mathlib.Core.Path.{_≡_, refl}
+use mathlib.Core.List.{List, []}
+use Rattle.csdl.specs.Model.{modelOf}
+use Rattle.csdl.specs.Find.{ancestor}
+use Rattle.csdl.specs.Properties.{sameName, redeclares, property11a, property11b, property11}
+
+module _ (sc ty pr ke co ch bi sg nm : List ℕ) where
+  pub property-11a-frame : (p : ℕ) → property11a (modelOf [] [] pr [] [] [] [] [] nm) p ≡ property11a (modelOf sc ty pr ke co ch bi sg nm) p
+  unfolding modelOf property11a sameName
+  property-11a-frame p = refl
+
+  pub property-11-frame : (p : ℕ) → property11 (modelOf [] ty pr [] [] [] [] [] nm) p ≡ property11 (modelOf sc ty pr ke co ch bi sg nm) p
+  unfolding modelOf property11 property11a property11b sameName redeclares ancestor
+  property-11-frame p = refl

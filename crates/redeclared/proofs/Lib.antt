@@ -1,0 +1,3 @@
+pub mod Named
+pub mod Frame
+pub mod Any
