@@ -1,8 +1,8 @@
 #!/usr/bin/env python3
 """Makes the images that the program `cases` runs, and the sheet of verdicts, from the texts of this folder.
 
-    python3 cases/make.py                  write crates/cases/data, crates/cases/stdout, crates/mark/stdin and stdout,
-                                           crates/explain/stdin and data
+    python3 cases/make.py                  write crates/cases/data, crates/cases/stdout, crates/mark/stdin, data and
+                                           stdout, crates/explain/stdin and data
     python3 cases/make.py --check          write nothing; fail if one of these files is not what the texts say
     python3 cases/make.py --image NAME     write the image of one case to standard output (for `mark`, or a hex dump)
     python3 cases/make.py --list           print the name, the verdict and the reason of each case
@@ -20,8 +20,12 @@ ROOT = os.path.dirname(HERE)
 # The example whose image is the standard input of `mark` and `explain`.
 EXAMPLE = "a-worked-example"
 
-# The arguments of the program `explain`: the names of cases whose images it explains, and - for its standard input.
+# The arguments of the two programs: the names of cases whose images they read, and - for standard input.
+MARKED = "crates/mark/args"
 EXPLAINED = "crates/explain/args"
+
+# The arguments among them that name no file, and what is no file: they get no mark.
+UNREADABLE = ("no-such-file", ".")
 
 PRIMITIVES = ("Binary Boolean Byte Date DateTimeOffset Decimal Double Duration Guid Int16 Int32 Int64 SByte Single "
               "Stream String TimeOfDay").split()
@@ -673,20 +677,33 @@ def outputs():
     out["crates/cases/data/list"] = "".join(r.list_line() for r in runs).encode()
     out["crates/cases/stdout"] = "".join(r.sheet_line() for r in runs).encode()
     out["crates/mark/stdin"] = files["models/" + EXAMPLE]
-    out["crates/mark/stdout"] = mark_lines(sections[EXAMPLE], Model(sections[EXAMPLE].lines))
+    out["crates/mark/stdout"] = b""
+    for name in arguments_of(MARKED):
+        out["crates/mark/stdout"] += mark_lines(name, sections[EXAMPLE if name == "-" else name])
+        if name != "-":
+            out["crates/mark/data/" + name] = files["models/" + name]
     out["crates/explain/stdin"] = files["models/" + EXAMPLE]
-    for name in open(os.path.join(ROOT, EXPLAINED)).read().split():
+    for name in arguments_of(EXPLAINED):
         if name != "-":
             out["crates/explain/data/" + name] = files["models/" + name]
     return sections, files, runs, out
 
 
-def mark_lines(s, model):
-    """What `mark` prints of the example: its verdict, and its resolution as the text has it."""
-    lines, first = [" ".join(s.rest)], model.place("segment", 0)
-    for k, x in enumerate(words(s.told["resolves"])):
-        cast = re.fullmatch(r"\((.*)\)", x)
-        lines.append(f"{first + k} cast {model.type_number(cast.group(1))}" if cast else f"{first + k} property {model.property_number(x)}")
+def arguments_of(path):
+    return [name for name in open(os.path.join(ROOT, path)).read().split() if name not in UNREADABLE]
+
+
+def mark_lines(name, s):
+    """What `mark` prints of a case among others: its name, its verdict, and its resolution as the text has it."""
+    lines = ["== " + name, " ".join(s.rest)]
+    if s.rest[0] == "accepted":
+        model, steps = Model(s.lines), words(s.told.get("resolves", ""))
+        if len(steps) != int(s.rest[1]):
+            raise Fault(f"{s.where}: marked, and does not say to what each segment resolves")
+        first = model.place("segment", 0) if steps else 0
+        for k, x in enumerate(steps):
+            cast = re.fullmatch(r"\((.*)\)", x)
+            lines.append(f"{first + k} cast {model.type_number(cast.group(1))}" if cast else f"{first + k} property {model.property_number(x)}")
     return "".join(l + "\n" for l in lines).encode()
 
 
@@ -712,7 +729,7 @@ def main(arguments):
         for r in runs:
             print(f"{r.name:<42}{r.verdict:<26}{sections[r.name].told.get('why', '')}")
         return
-    extra = (stored("crates/cases/data") | stored("crates/explain/data")) - set(out)
+    extra = (stored("crates/cases/data") | stored("crates/mark/data") | stored("crates/explain/data")) - set(out)
     if arguments == ["--check"]:
         wrong = sorted(extra)
         for name, data in out.items():

@@ -10,6 +10,8 @@
  *     accepted   below 2^32             the numbers that the call reports, as said at each function
  *
  * A refusal leaves every lent byte as it was.
+ *
+ * No call takes memory other than its stack, and of that at most the bytes below, whatever it is lent.
  */
 #ifndef TOUR_MODEL_H
 #define TOUR_MODEL_H
@@ -19,6 +21,10 @@
 
 #define TOUR_LARGEST_MODEL 13348    /* bytes of the largest model image that rule 1 lets pass */
 #define TOUR_LARGEST_INSTANCE 14344 /* bytes of the largest instance image that rule 20 lets pass */
+
+#define TOUR_STACK_MODEL 20480    /* bytes of stack that tour_check_model needs at most */
+#define TOUR_STACK_INSTANCE 49152 /* tour_check_instance */
+#define TOUR_STACK_WALK 49152     /* tour_walk */
 
 /* The numbers of a result. */
 #define TOUR_REFUSED(result) ((result) >> 32 != 0)

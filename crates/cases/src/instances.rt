@@ -15,7 +15,7 @@ pub fn check(text: &[u8]) {
     let m = load(line::model(text), &mut image);
     let mut instance = [0u8; INSTANCE_SIZE];
     let n = load(line::instance(text), &mut instance);
-    print_instance(conformance::check_instance(&image[..m], &instance[..n]));
+    print_instance(instance_check::check_instance(&image[..m], &instance[..n]));
 }
 
 pub fn walk(text: &[u8]) {

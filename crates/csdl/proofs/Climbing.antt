@@ -10,7 +10,7 @@ use borrow.Author.Tests.{eqb-true, eq-eqb}
 use Rattle.csdl.specs.Climb.{climb, nearest}
 use Rattle.csdl.proofs.Settle.{by-n}
 
--- a stands above t: it is the next of t, or above the next. `next t` is 0 for none, else the number above t and 1.
+-- a stands above t: it is the next of t, or above the next. `next t` is 0 for none, else the number above t plus 1.
 pub data Above (next : ℕ → ℕ) (a : ℕ) : ℕ → Type 0 where
   is-next : {t : ℕ} → next t ≡ suc a → Above next a t
   of-next : {t u : ℕ} → next t ≡ suc u → Above next a u → Above next a t

@@ -6,5 +6,11 @@ pub mod Settle
 pub mod Climbing
 pub mod Reaching
 pub mod Places
+pub mod Numbers
 pub mod Relations
 pub mod Verdicts
+pub mod Bounds
+pub mod Segments
+pub mod Clauses
+pub mod Meaning
+pub mod Nulls

@@ -243,3 +243,7 @@ pub tab-same : {A : Type 0} (f g : ℕ → A) (i n : ℕ) → Among i n (λ k. f
 unfolding tab
 tab-same f g i zero e = refl
 tab-same f g i (suc n) e = ap₂ _∷_ (e i (omega arith) (omega arith)) (tab-same f g (i + 1) n (λ k a b. e k (omega arith) (omega arith)))
+
+-- A part that makes the whole true is false where the whole is.
+pub off : (whole part : Bool) → (part ≡ true → whole ≡ true) → whole ≡ false → part ≡ false
+off whole part f h = not-so part (λ e. true-false whole (f e) h)

@@ -1,5 +1,5 @@
 -- The tests of rules 9, 12 and 26 decide the relations of specs/Relations, where the lower rules are kept.
-use Prim.Native.Nat.{ℕ, suc, _+_, _-_, _≤_, _<_, zero-le}
+use Prim.Native.Nat.{ℕ, suc, _-_, _<_, zero-le}
 use mathlib.Core.Path.{_≡_, refl, sym, ap, _∙_}
 use mathlib.Core.Bool.{Bool, true, false, not, _&&_, _||_}
 use mathlib.Core.Logic.{_↔_, ⊎-elim}
@@ -9,13 +9,13 @@ use borrow.Author.Tests.{eqb-true, eq-eqb, ltb-true, lt-ltb, not-false, not-true
 use Rattle.csdl.specs.Search.{countFrom}
 use Rattle.csdl.specs.Climb.{reaches}
 use Rattle.csdl.specs.Model.{Model, inRun}
-use Rattle.csdl.specs.Find.{ofKind, entity, complex, ancestor, isAt, integral, complexStep, containStep}
-use Rattle.csdl.specs.Form.{beyond4a, kind4f, underlying4g, name4, type4, rule4, run4cd}
+use Rattle.csdl.specs.Find.{ofKind, entity, complex, ancestor, ancestorOrSelf, integral, complexStep, containStep}
+use Rattle.csdl.specs.Form.{rule4, run4cd}
 use Rattle.csdl.specs.Types.{type9}
 use Rattle.csdl.specs.Properties.{property10a, property10b, property10c, property10d, property10e, property10f, property10g, property10h, property10, rule10, required, requiredStep, type12}
 use Rattle.csdl.specs.Instance.{Instance}
 use Rattle.csdl.specs.Conforms.{nodesWith, slotsWith, countUnlike, slot21b, item21c, rule21, slotOfItem, nodeOfSlot, itemProperty, nodeOfItem, isNull, holdsItem, holdsNode, node26a, node26b}
-use Rattle.csdl.specs.Relations.{Ancestor, Belongs, Requires, Reaches, Holds, Within}
+use Rattle.csdl.specs.Relations.{Closed, Ancestor, Belongs, Requires, Reaches, Holds, HeldTwice, Within}
 use Rattle.csdl.specs.Relations.Ancestor.{its-base, of-base}
 use Rattle.csdl.specs.Relations.Belongs.{itself, inherited}
 use Rattle.csdl.specs.Relations.Reaches.{one, more}
@@ -26,30 +26,20 @@ use Rattle.csdl.proofs.Climbing.{Above, climb-sound, climb-found}
 use Rattle.csdl.proofs.Climbing.Above.{is-next, of-next}
 use Rattle.csdl.proofs.Reaching.{Reach, reaches-sound, reaches-found}
 use Rattle.csdl.proofs.Reaching.Reach.{in-one, in-more}
-use Rattle.csdl.proofs.Places.{of-type, of-property, of-slot, of-item}
+use Rattle.csdl.proofs.Places.{of-property, of-slot, of-item}
+use Rattle.csdl.proofs.Numbers.{numbers-fit}
 
 -- Ancestors.
-ancestor-of : (m : Model) {a t : ℕ} → Above (m .base) a t → Ancestor m a t
+pub ancestor-of : (m : Model) {a t : ℕ} → Above (m .base) a t → Ancestor m a t
 ancestor-of m (is-next e) = its-base e
 ancestor-of m (of-next e r) = of-base e (ancestor-of m r)
 
-above-of : (m : Model) {a t : ℕ} → Ancestor m a t → Above (m .base) a t
+pub above-of : (m : Model) {a t : ℕ} → Ancestor m a t → Above (m .base) a t
 above-of m (its-base e) = is-next e
 above-of m (of-base e r) = of-next e (above-of m r)
 
--- Every base is none or a type's number and 1.
-abbrev pub Closed : Model → Type 0
-Closed m = (t : ℕ) → t < m .types → m .base t ≤ m .types
-
 pub closed : (m : Model) → Kept m rule4 → Closed m
-unfolding rule4 type4
-closed m kept t l =
-    let a = beyond4a (m .schemaOf t) (m .schemas) in
-    let b = beyond4a (m .base t) (m .types + 1) in
-    let e = or-no (a || b || kind4f m t || underlying4g m t) (name4 m (m .typeName t)) (of-type m rule4 kept t l) .0 in
-    let f = or-no (a || b) (kind4f m t) (or-no (a || b || kind4f m t) (underlying4g m t) e .0) .0 in
-    let g = ltb-true (m .base t) (m .types + 1) (not-false (ltb (m .base t) (m .types + 1)) (or-no a b f .1)) in
-    omega arith
+closed m kept = numbers-fit m kept .base-there
 
 pub ancestor-sound : (m : Model) (a t : ℕ) → ancestor m a t ≡ true → Ancestor m a t
 unfolding ancestor
@@ -90,26 +80,26 @@ to-entity m p e n =
 
 -- Rule 12: a step by a required property.
 module _ (m : Model) where
-  belongs-sound : (p t : ℕ) → isAt m (m .owner p) t ≡ true → Belongs m t p
-  unfolding isAt
+  belongs-sound : (p t : ℕ) → ancestorOrSelf m (m .owner p) t ≡ true → Belongs m t p
+  unfolding ancestorOrSelf
   belongs-sound p t e =
       ⊎-elim (λ h. itself (sym (eqb-true t (m .owner p) h))) (λ h. inherited (ancestor-sound m (m .owner p) t h))
       (or-cases (eqb t (m .owner p)) (ancestor m (m .owner p) t) e)
 
-  belongs-found : Closed m → {p t : ℕ} → t < m .types → Belongs m t p → isAt m (m .owner p) t ≡ true
-  unfolding isAt
+  belongs-found : Closed m → {p t : ℕ} → t < m .types → Belongs m t p → ancestorOrSelf m (m .owner p) t ≡ true
+  unfolding ancestorOrSelf
   belongs-found c {t = t} l (itself {p} e) = or-left (eqb t (m .owner p)) (ancestor m (m .owner p) t) (eq-eqb t (m .owner p) (sym e))
   belongs-found c {t = t} l (inherited {p} r) = or-right (eqb t (m .owner p)) (ancestor m (m .owner p) t) (ancestor-found m c (m .owner p) t l r)
 
   abbrev gives : ℕ → ℕ → ℕ → Bool
-  gives t u p = required m p && eqb (m .typeRef p) u && isAt m (m .owner p) t
+  gives t u p = required m p && eqb (m .typeRef p) u && ancestorOrSelf m (m .owner p) t
 
   pub required-sound : (t u : ℕ) → requiredStep m t u ≡ true → Requires m t u
   unfolding requiredStep required
   required-sound t u e =
       let w = any-found (gives t u) 0 (m .properties) e in
       let p = w .0 in
-      let c = and-cases (required m p && eqb (m .typeRef p) u) (isAt m (m .owner p) t) (w .3) in
+      let c = and-cases (required m p && eqb (m .typeRef p) u) (ancestorOrSelf m (m .owner p) t) (w .3) in
       let d = and-cases (required m p) (eqb (m .typeRef p) u) (c .0) in
       let r = and-cases (not (m .collection p) && not (m .nullable p)) (integral m p) (d .0) in
       let s = and-cases (not (m .collection p)) (not (m .nullable p)) (r .0) in
@@ -166,13 +156,6 @@ module _ (m : Model) where
     rule12-decides t l = reaches-decides t t l l
 
 -- Rule 26, where rule 21 is kept: every item stands in one slot, every slot in one node.
--- Two different items hold the node.
-pub record HeldTwice (m : Model) (i : Instance) (w : ℕ) : Type 0 where
-  pub node : ℕ
-  pub other-node : ℕ
-  pub holds : Holds m i node w
-  pub other-holds : Holds m i other-node w
-  pub other-item : holds .item ≡ other-holds .item → ⊥
 
 module _ (m : Model) (i : Instance) (kept : Fulfilled m i rule21) where
   pub slot-once : (s : ℕ) → s < i .slots → nodesWith i s ≡ 1

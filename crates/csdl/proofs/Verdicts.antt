@@ -6,6 +6,7 @@ use mathlib.Core.Bool.{Bool, true, false, _&&_}
 use mathlib.Core.Logic.{_↔_, _⊎_, inl, inr, ⊎-elim}
 use native.Mathlib.Nat.{le-antisymm}
 use native.Mathlib.Omega.{arith}
+use lib.ListN.{length}
 use lib.Dec.{ltb, leb}
 use borrow.Author.Tests.{ltb-true, ltb-false, leb-true}
 use Rattle.csdl.specs.Search.{firstFrom}
@@ -16,8 +17,8 @@ use Rattle.csdl.specs.Verdict.{Answer, Stage, verdict, modelStages, mode
 use Rattle.csdl.specs.Verdict.Answer.{accepted, refused}
 use Rattle.csdl.specs.Verdict.Stage.{whole, each}
 use Rattle.csdl.specs.Conforms.{instanceStages, instanceThen, instanceAnswer}
-use Rattle.csdl.specs.Accepted.{Unbroken, ModelKept, InstanceKept, ModelPasses, InstancePasses, number, Passed, BrokenAt, AllPassed, Broken, Lowest, checkStages, laterStages, conformStages}
-use Rattle.csdl.proofs.Everything.{everything}
+use Rattle.csdl.specs.Walk.{walkResults, walkOpened, walkAnswer}
+use Rattle.csdl.specs.Accepted.{Unbroken, ModelKept, InstanceKept, ModelPasses, InstancePasses, WalkPasses, number, Passed, BrokenAt, AllPassed, Broken, Lowest, checkStages, laterStages, conformStages, walkStages, AfterModel}
 use Rattle.csdl.proofs.Examples.{image-a, image-b, eight, worked}
 use Rattle.csdl.proofs.Logic.{true-false, and-cases, first-found, first-none, none-first, first-is}
 
@@ -28,6 +29,10 @@ IsRefused (refused rule place) = Unit {0}
 
 pub not-both : {values : List ℕ} {rule place : ℕ} → accepted values ≡ refused rule place → ⊥
 not-both e = subst IsRefused (sym e) tt
+
+abbrev valuesOf : Answer → List ℕ
+valuesOf (accepted values) = values
+valuesOf (refused rule place) = []
 
 abbrev ruleOf : Answer → ℕ
 ruleOf (accepted values) = 0
@@ -86,7 +91,7 @@ ascends-cases : (a : ℕ) (s : Stage) (stages : List Stage) → ascends a (s ∷
 unfolding ascends
 ascends-cases a s stages e = let c = and-cases (leb a (number s)) (ascends (suc (number s)) stages) e in (leb-true a (number s) (c .0), c .1)
 
-broken-from : (n a : ℕ) (stages : List Stage) (rule place : ℕ) → ascends a stages ≡ true → Broken n stages rule place → a ≤ rule
+pub broken-from : (n a : ℕ) (stages : List Stage) (rule place : ℕ) → ascends a stages ≡ true → Broken n stages rule place → a ≤ rule
 unfolding Broken
 broken-from n a [] rule place up b = absurd b
 broken-from n a (s ∷ stages) rule place up b =
@@ -295,14 +300,17 @@ conform-ascends : (model image : List ℕ) → ascends 20 (conformStages model i
 unfolding ascends instanceStages
 conform-ascends model image = refl
 
--- The check of a model accepts exactly what breaks none of the rules 1 to 19 at any place; else it names the lowest rule and its lowest place.
-pub model-accepts : (image buffer : List ℕ)
-    → (modelAnswer image buffer ≡ accepted (modelIn image .segments ∷ [])) ↔ (ModelPasses image × (buffer2 image buffer ≡ false))
-model-accepts image buffer =
+-- The check of a model accepts exactly what breaks none of the rules 1 to 19 at any place, and then answers the number of segments and nothing
+-- else; else it names the lowest rule and its lowest place.
+pub model-accepts : (image buffer values : List ℕ)
+    → (modelAnswer image buffer ≡ accepted values) ↔ (ModelPasses image × (buffer2 image buffer ≡ false) × (values ≡ modelIn image .segments ∷ []))
+model-accepts image buffer values =
     let v = verdict-accepts (places (modelIn image)) 1 (checkStages image buffer) (check-ascends image buffer)
-    (accepted (modelIn image .segments ∷ [])) (modelIn image .segments ∷ []) in (
-      λ e. check-passes image buffer .0 (v .0 (sym (model-is image buffer) ∙ e) .0),
-      λ p. model-is image buffer ∙ v .1 (check-passes image buffer .1 p, refl),
+    (accepted (modelIn image .segments ∷ [])) values in (
+      λ e. let w = v .0 (sym (model-is image buffer) ∙ e) in
+          let p = check-passes image buffer .0 (w .0) in
+          (p .0, p .1, ap valuesOf (sym (w .1))),
+      λ p. model-is image buffer ∙ v .1 (check-passes image buffer .1 (p .0, p .1), ap accepted (sym (p .2))),
     )
 
 pub model-refuses : (image buffer : List ℕ) (rule place : ℕ)
@@ -345,11 +353,6 @@ instance-then-accepts model image other values =
           instance-is model image other ∙ model-then-accepts model after values .1 (p, v .1 (conform-passes model image p .1 (h .0), h .1)),
     )
 
--- A refusal of the instance's own rules, or of what follows them.
-abbrev pub AfterModel : List ℕ → List ℕ → Answer → ℕ → ℕ → Type 0
-AfterModel model image other rule place =
-    Lowest (parts (instanceIn image)) (conformStages model image) rule place ⊎ (InstancePasses model image × (other ≡ refused rule place))
-
 pub instance-then-refuses : (model image : List ℕ) (other : Answer) (rule place : ℕ)
     → (instanceThen model image other ≡ refused rule place)
     ↔ (Lowest (places (modelIn model)) (laterStages model) rule place ⊎ (ModelPasses model × AfterModel model image other rule place))
@@ -383,13 +386,57 @@ instance-refuses model image rule place =
       λ h. answer-is model image ∙ v .1 (⊎-elim (λ low. inl low) (λ k. inr (k .0, inl (k .1))) h),
     )
 
--- The tour model of document 01 breaks no rule; where Tour and Stop are each other's base, rule 9 is the lowest and Tour's place.
-four-segments : modelIn image-a .segments ≡ 4
-unfolding everything image-a
-four-segments = refl
+-- No other value is answered.
+pub instance-values : (model image values : List ℕ) → instanceAnswer model image ≡ accepted values → values ≡ []
+instance-values model image values e =
+    ap valuesOf (sym (instance-then-accepts model image (accepted []) values .0 (sym (answer-is model image) ∙ e) .1))
 
+-- The walk: the rules of the instance check first, then 27 to 29, at place 0. It accepts exactly where none is broken, and then answers the number
+-- of results and the number of slots opened, and nothing else.
+module _ (model image : List ℕ) (place n v : ℕ) (buffer : List ℕ) where
+  abbrev counts : List ℕ
+  counts = length (walkResults model image place n v) ∷ length (walkOpened model image place n v) ∷ []
+
+  abbrev stages : List Stage
+  stages = walkStages model image place n v buffer
+
+  walk-is : walkAnswer model image place n v buffer ≡ instanceThen model image (verdict 0 stages (accepted counts))
+  unfolding walkAnswer
+  walk-is = refl
+
+  walk-ascends : ascends 27 stages ≡ true
+  unfolding ascends
+  walk-ascends = refl
+
+  pub walk-accepts : (values : List ℕ)
+      → (walkAnswer model image place n v buffer ≡ accepted values) ↔ (WalkPasses model image place n v buffer × (values ≡ counts))
+  unfolding AllPassed
+  walk-accepts values =
+      let u = instance-then-accepts model image (verdict 0 stages (accepted counts)) values in
+      let w = verdict-accepts 0 27 stages walk-ascends (accepted counts) values in (
+        λ e. let a = u .0 (sym walk-is ∙ e) in
+            let b = w .0 (a .1) in
+            (record { instance-passes = a .0; kept27 = b .0 .0; kept28 = b .0 .1 .0; kept29 = b .0 .1 .1 .0 }, ap valuesOf (sym (b .1))),
+        λ h. let p = h .0 in walk-is ∙ u .1 (p .instance-passes, w .1 ((p .kept27, (p .kept28, (p .kept29, tt))), ap accepted (sym (h .1)))),
+      )
+
+  pub walk-refuses : (rule at : ℕ)
+      → (walkAnswer model image place n v buffer ≡ refused rule at)
+      ↔ (Lowest (places (modelIn model)) (laterStages model) rule at
+      ⊎ (ModelPasses model
+      × (Lowest (parts (instanceIn image)) (conformStages model image) rule at ⊎ (InstancePasses model image × Lowest 0 stages rule at))))
+  walk-refuses rule at =
+      let u = instance-then-refuses model image (verdict 0 stages (accepted counts)) rule at in
+      let w = verdict-refuses 0 27 stages walk-ascends (accepted counts) rule at in (
+        λ e. ⊎-elim (λ low. inl low)
+            (λ h. inr (h .0, ⊎-elim (λ low. inl low) (λ k. inr (k .0, ⊎-elim (λ low. low) (λ x. absurd (not-both (x .1))) (w .0 (k .1)))) (h .1)))
+            (u .0 (sym walk-is ∙ e)),
+        λ h. walk-is ∙ u .1 (⊎-elim (λ low. inl low) (λ k. inr (k .0, ⊎-elim (λ low. inl low) (λ x. inr (x .0, w .1 (inl (x .1)))) (k .1))) h),
+      )
+
+-- The tour model of document 01 breaks no rule; where Tour and Stop are each other's base, rule 9 is the lowest and Tour's place.
 pub tour-passes : ModelPasses image-a
-tour-passes = model-accepts image-a eight .0 (worked .0 ∙ ap (λ (n : ℕ). accepted (n ∷ [])) (sym four-segments)) .0
+tour-passes = model-accepts image-a eight (4 ∷ []) .0 (worked .0) .0
 
 pub own-base-refused : Lowest (places (modelIn image-b)) (checkStages image-b eight) 9 1
 own-base-refused = model-refuses image-b eight 9 1 .0 (worked .2)

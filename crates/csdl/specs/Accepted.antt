@@ -4,16 +4,19 @@ use mathlib.Core.Path.{_≡_}
 use mathlib.Core.List.{List, [], _∷_}
 use mathlib.Core.Bool.{Bool, true, false}
 use mathlib.Core.Logic.{_⊎_}
-use Rattle.csdl.specs.Model.{Model, places}
+use Rattle.csdl.specs.Model.{Model, inRun, places}
 use Rattle.csdl.specs.Image.{modelIn, image1, buffer2}
 use Rattle.csdl.specs.Instance.{Instance, instanceIn, image20, parts}
 use Rattle.csdl.specs.Form.{rule3, rule4, rule5, rule6, rule7}
 use Rattle.csdl.specs.Types.{rule8, rule9}
 use Rattle.csdl.specs.Properties.{rule10, rule11, rule12}
 use Rattle.csdl.specs.Paths.{rule13, rule14, rule15, rule16, rule17, rule18, rule19}
-use Rattle.csdl.specs.Verdict.{Stage, placed, modelStages}
+use Rattle.csdl.specs.Verdict.{Answer, Stage, placed, modelStages}
+use Rattle.csdl.specs.Verdict.Answer.{refused}
 use Rattle.csdl.specs.Verdict.Stage.{whole, each}
-use Rattle.csdl.specs.Conforms.{rule21, rule22, rule23, rule24, rule25, rule26, sited, instanceStages}
+use Rattle.csdl.specs.Conforms.{isNull, rule21, rule22, rule23, rule24, rule25, rule26, placedPart, instanceStages}
+use Rattle.csdl.specs.Walk.{Item, chosenStart, walk27, walk28, walk29, walkPath}
+use Rattle.csdl.specs.Walk.Item.{null, held}
 use Rattle.csdl.specs.declared.Record.{Record}
 use Rattle.csdl.specs.declared.Part.{Part}
 
@@ -26,7 +29,7 @@ abbrev pub Kept : Model → (Model → Record → Bool) → Type 0
 Kept m rule = Unbroken (places m) (placed m rule)
 
 abbrev pub Fulfilled : Model → Instance → (Model → Instance → Part → Bool) → Type 0
-Fulfilled m i rule = Unbroken (parts i) (sited m i rule)
+Fulfilled m i rule = Unbroken (parts i) (placedPart m i rule)
 
 -- Rules 3 to 19 are unbroken at every place of the model.
 pub record ModelKept (m : Model) : Type 0 where
@@ -67,6 +70,22 @@ pub record InstancePasses (model image : List ℕ) : Type 0 where
   pub kept20 : image20 image ≡ false
   pub instance-kept : InstanceKept (modelIn model) (instanceIn image)
 
+-- With them, a walk breaks none of the rules 27 to 29: the record at the place has such a path, the start node is there and at the path's start
+-- type, and the result buffer has room.
+pub record WalkPasses (model image : List ℕ) (place n v : ℕ) (buffer : List ℕ) : Type 0 where
+  pub instance-passes : InstancePasses model image
+  pub kept27 : walk27 (walkPath model place n) ≡ false
+  pub kept28 : walk28 (modelIn model) (instanceIn image) (chosenStart (modelIn model) (walkPath model place n)) v ≡ false
+  pub kept29 : walk29 (instanceIn image) buffer ≡ false
+
+-- The item is null. Slot s is null, or one of its items is.
+abbrev pub IsNull : Item → Type 0
+IsNull (null o) = Unit {0}
+IsNull (held r v) = ⊥
+
+unfoldable pub NullIn : Instance → ℕ → Type 0
+NullIn i s = (i .state s ≡ 0) ⊎ ((k : ℕ) × (inRun (i .slotItems s) k ≡ true) × (isNull i k ≡ true))
+
 -- The number of a stage's rule.
 abbrev pub number : Stage → ℕ
 number (whole rule broken) = rule
@@ -106,3 +125,14 @@ laterStages image = whole 1 (image1 image) ∷ modelStages (modelIn image)
 
 abbrev pub conformStages : List ℕ → List ℕ → List Stage
 conformStages model image = whole 20 (image20 image) ∷ instanceStages (modelIn model) (instanceIn image)
+
+-- Those of a walk, after these.
+abbrev pub walkStages : List ℕ → List ℕ → ℕ → ℕ → ℕ → List ℕ → List Stage
+walkStages model image place n v buffer =
+    whole 27 (walk27 (walkPath model place n)) ∷ whole 28 (walk28 (modelIn model) (instanceIn image) (chosenStart (modelIn model) (walkPath model place n)) v)
+    ∷ whole 29 (walk29 (instanceIn image) buffer) ∷ []
+
+-- A refusal of the instance's own rules, or of what follows them.
+abbrev pub AfterModel : List ℕ → List ℕ → Answer → ℕ → ℕ → Type 0
+AfterModel model image other rule place =
+    Lowest (parts (instanceIn image)) (conformStages model image) rule place ⊎ (InstancePasses model image × (other ≡ refused rule place))

@@ -1,4 +1,4 @@
--- Climbing from number to number, and reaching by steps. `next t` is 0 for none, else the number above t and 1.
+-- Climbing from number to number, and reaching by steps. `next t` is 0 for none, else the number above t plus 1.
 use Prim.Native.Nat.{ℕ, zero, suc, _+_, _-_}
 use mathlib.Core.List.{List, [], _∷_}
 use mathlib.Core.Bool.{Bool, true, false, cond, _&&_, _||_}

@@ -6,7 +6,7 @@ use lib.Dec.{eqb, ltb, leb}
 use Rattle.csdl.specs.Search.{firstFrom, anyFrom, countFrom, mark}
 use Rattle.csdl.specs.Climb.{reaches}
 use Rattle.csdl.specs.Model.{Model, inRun}
-use Rattle.csdl.specs.Find.{structured, isAt, isNameOf, integral}
+use Rattle.csdl.specs.Find.{structured, ancestorOrSelf, isNameOf, integral}
 use Rattle.csdl.specs.Form.{run4cd}
 use Rattle.csdl.specs.Instance.{Instance, instanceIn, image20, parts, partAt, onNode, onSlot, onItem}
 use Rattle.csdl.specs.Verdict.{Answer, Stage, verdict, modelThen}
@@ -85,7 +85,7 @@ slot24 m i s = slot24a m i s || slot24b m i s || slot24c m i s
 abbrev pub rule24 : Model → Instance → Part → Bool
 rule24 m i r = onSlot (λ s. slot24 m i s) r
 
--- The slot whose run has the item; the node whose run has the slot: 0 for none, else its number and 1.
+-- The slot whose run has the item; the node whose run has the slot: 0 for none, else its number plus 1.
 unfoldable pub slotOfItem : Instance → ℕ → ℕ
 slotOfItem i k = firstFrom (λ s. inRun (i .slotItems s) k) 0 (i .slots)
 
@@ -102,7 +102,7 @@ isNull i k = eqb (i .itemRef k) 255 && eqb (i .itemHandle k) 0
 
 -- Item k carries its node's type, at type u, and the node's number.
 unfoldable pub carriesNode : Model → Instance → ℕ → ℕ → Bool
-carriesNode m i u k = ltb (i .itemHandle k) (i .nodes) && eqb (i .itemRef k) (i .nodeType (i .itemHandle k)) && isAt m u (i .itemRef k)
+carriesNode m i u k = ltb (i .itemHandle k) (i .nodes) && eqb (i .itemRef k) (i .nodeType (i .itemHandle k)) && ancestorOrSelf m u (i .itemRef k)
 
 -- Rule 25, of an item of property p. 25a: null, and not in a nullable collection. 25b: not null, of a structured property, and it does not
 -- carry a node's type, at the property's, with that node's number. 25c: not null, of another property, with another type reference.
@@ -121,7 +121,7 @@ rule25 m i r = onItem (λ k. item25 m i k) r
 unfoldable pub holdsItem : Model → Instance → ℕ → ℕ → Bool
 holdsItem m i w k = eqb (i .itemHandle k) w && not (isNull i k) && integral m (itemProperty i k)
 
--- The node in whose slot item k stands: 0 for none, else its number and 1.
+-- The node in whose slot item k stands: 0 for none, else its number plus 1.
 abbrev pub nodeOfItem : Instance → ℕ → ℕ
 nodeOfItem i k = nodeOfSlot i (slotOfItem i k - 1)
 
@@ -144,13 +144,13 @@ abbrev pub rule26 : Model → Instance → Part → Bool
 rule26 m i r = onNode (λ w. node26 m i w) r
 
 -- Rules 21 to 26 of an instance.
-abbrev pub sited : Model → Instance → (Model → Instance → Part → Bool) → ℕ → Bool
-sited m i rule place = rule m i (partAt i place)
+abbrev pub placedPart : Model → Instance → (Model → Instance → Part → Bool) → ℕ → Bool
+placedPart m i rule place = rule m i (partAt i place)
 
 unfoldable pub instanceStages : Model → Instance → List Stage
 instanceStages m i =
-    each 21 (sited m i rule21) ∷ each 22 (sited m i rule22) ∷ each 23 (sited m i rule23) ∷ each 24 (sited m i rule24) ∷ each 25 (sited m i rule25)
-    ∷ each 26 (sited m i rule26) ∷ []
+    each 21 (placedPart m i rule21) ∷ each 22 (placedPart m i rule22) ∷ each 23 (placedPart m i rule23) ∷ each 24 (placedPart m i rule24) ∷ each 25 (placedPart m i rule25)
+    ∷ each 26 (placedPart m i rule26) ∷ []
 
 -- Rules 1 and 3 to 19 of the model, then 20 to 26 of the instance, then what follows.
 unfoldable pub instanceThen : List ℕ → List ℕ → Answer → Answer

@@ -6,7 +6,7 @@ use lib.Dec.{eqb, ltb, leb}
 use Rattle.packed.specs.Bytes.{same}
 use Rattle.csdl.specs.Search.{firstFrom, anyFrom}
 use Rattle.csdl.specs.Climb.{climb, nearest, topmost}
-use Rattle.csdl.specs.Model.{Model, text}
+use Rattle.csdl.specs.Model.{Model, propertyText}
 
 -- A type reference is a type number, or 64 + primitive code. Kinds: 0 entity, 1 complex, 2 enumeration, 3 type definition.
 unfoldable pub ofKind : Model → ℕ → ℕ → Bool
@@ -32,9 +32,9 @@ structured m x = ltb x (m .types) && leb (m .kind x) 1
 unfoldable pub ancestor : Model → ℕ → ℕ → Bool
 ancestor m a t = climb (m .base) (m .types) a t
 
--- The test "is at a": a itself, or derived from a.
-unfoldable pub isAt : Model → ℕ → ℕ → Bool
-isAt m a t = eqb t a || ancestor m a t
+-- t is at a: a is t itself, or an ancestor of t.
+unfoldable pub ancestorOrSelf : Model → ℕ → ℕ → Bool
+ancestorOrSelf m a t = eqb t a || ancestor m a t
 
 -- The topmost type above t, or t itself.
 unfoldable pub top : Model → ℕ → ℕ
@@ -42,19 +42,19 @@ top m t = topmost (m .base) (m .types) t
 
 -- Property p is one that t itself declares under the name.
 unfoldable pub declares : Model → List ℕ → ℕ → ℕ → Bool
-declares m nm t p = eqb (m .owner p) t && same (text m (m .propertyName p)) nm
+declares m nm t p = eqb (m .owner p) t && same (propertyText m p) nm
 
--- The declaration of the name on the type itself: 0 for none, else the property's number and 1.
+-- The declaration of the name on the type itself: 0 for none, else the property's number plus 1.
 unfoldable pub own : Model → List ℕ → ℕ → ℕ
 own m nm t = firstFrom (λ p. declares m nm t p) 0 (m .properties)
 
--- What a name means at a type: the declaration on the type itself, else on its nearest ancestor; 0 for none, else the property's number and 1.
+-- What a name means at a type: the declaration on the type itself, else on its nearest ancestor; 0 for none, else the property's number plus 1.
 unfoldable pub find : Model → List ℕ → ℕ → ℕ
 find m nm t = nearest (λ u. own m nm u) (m .base) (m .types) t
 
 -- The names of a type: the properties that are what their own name means there, the nearest declarations, once each.
 unfoldable pub isNameOf : Model → ℕ → ℕ → Bool
-isNameOf m t p = eqb (find m (text m (m .propertyName p)) t) (suc p)
+isNameOf m t p = eqb (find m (propertyText m p) t) (suc p)
 
 -- A structural property of a complex type; a navigation property that contains.
 unfoldable pub complexStep : Model → ℕ → Bool
@@ -69,4 +69,4 @@ integral m p = complexStep m p || containStep m p
 
 -- A key record has the type or one of its ancestors as owner.
 unfoldable pub hasKey : Model → ℕ → Bool
-hasKey m t = anyFrom (λ k. isAt m (m .keyOwner k) t) 0 (m .keys)
+hasKey m t = anyFrom (λ k. ancestorOrSelf m (m .keyOwner k) t) 0 (m .keys)

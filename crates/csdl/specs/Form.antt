@@ -1,13 +1,14 @@
 -- Rules 3 to 7: spare bits, numbers within their tables, names.
 use Prim.Native.Nat.{ℕ, _+_, _-_}
 use mathlib.Core.List.{List, [], _∷_}
-use mathlib.Core.Bool.{Bool, true, false, cond, not, _&&_, _||_}
+use mathlib.Core.Bool.{Bool, false, cond, not, _&&_, _||_}
 use lib.ListN.{length, getD}
 use lib.Dec.{eqb, ltb, leb}
 use Rattle.packed.specs.Bytes.{same}
 use Rattle.csdl.specs.Search.{anyFrom, all}
 use Rattle.csdl.specs.Tables.{Name, Run}
-use Rattle.csdl.specs.Model.{Model, text, named, present, onSchema, onType, onChild}
+use Rattle.csdl.specs.Model.{Model, aliasText, childText, namespaceText, typeText, text, named, present, on}
+use Rattle.csdl.specs.Model.Table.{schema-table, type-table, child-table}
 use Rattle.csdl.specs.declared.Record.{Record}
 use Rattle.csdl.specs.declared.Record.the-variants.{OfSchema, OfType, OfProperty, OfKey, OfConstraint, OfChild, OfBinding, OfSegment, Nowhere}
 
@@ -101,7 +102,7 @@ rule4 m (OfBinding b) = binding4 m b
 rule4 m (OfSegment g) = segment4 m g
 rule4 m Nowhere = false
 
--- Rule 5 (s. 3.1, 15.1, 15.2; house: ASCII, at most 255 bytes).
+-- Rule 5 (s. 3.1, 5.1, 6.5, 7, 8, 13.2, 13.3, 15.1, 15.2; house: ASCII, at most 255 bytes).
 -- A letter, a digit, an underscore, as ASCII bytes.
 unfoldable pub isDigit : ℕ → Bool
 isDigit c = leb 48 c && leb c 57
@@ -157,19 +158,19 @@ reserved s =
 
 -- The bytes are the namespace or the alias of schema j.
 unfoldable pub namesSchema : Model → List ℕ → ℕ → Bool
-namesSchema m s j = same s (text m (m .namespace j)) || named (m .alias j) && same s (text m (m .alias j))
+namesSchema m s j = same s (namespaceText m j) || named (m .alias j) && same s (aliasText m j)
 
--- 6a: the namespace or the alias is reserved.
+-- 6a (s. 5, 5.1): the namespace or the alias is reserved.
 abbrev pub schema6a : Model → ℕ → Bool
-schema6a m i = reserved (text m (m .namespace i)) || named (m .alias i) && reserved (text m (m .alias i))
+schema6a m i = reserved (namespaceText m i) || named (m .alias i) && reserved (aliasText m i)
 
--- 6b: the alias equals the namespace.
+-- 6b (s. 5.1): the alias equals the namespace.
 abbrev pub schema6b : Model → ℕ → Bool
-schema6b m i = named (m .alias i) && same (text m (m .alias i)) (text m (m .namespace i))
+schema6b m i = named (m .alias i) && same (aliasText m i) (namespaceText m i)
 
--- 6c: the namespace or the alias is one of an earlier schema's two names.
+-- 6c (s. 5, 5.1): the namespace or the alias is one of an earlier schema's two names.
 unfoldable pub sharesName : Model → ℕ → ℕ → Bool
-sharesName m i j = namesSchema m (text m (m .namespace i)) j || named (m .alias i) && namesSchema m (text m (m .alias i)) j
+sharesName m i j = namesSchema m (namespaceText m i) j || named (m .alias i) && namesSchema m (aliasText m i) j
 
 abbrev pub schema6c : Model → ℕ → Bool
 schema6c m i = anyFrom (λ j. sharesName m i j) 0 i
@@ -178,19 +179,19 @@ unfoldable pub schema6 : Model → ℕ → Bool
 schema6 m i = schema6a m i || schema6b m i || schema6c m i
 
 abbrev pub rule6 : Model → Record → Bool
-rule6 m r = onSchema (λ s. schema6 m s) r
+rule6 m r = on schema-table (λ s. schema6 m s) r
 
--- Rule 7 (s. 3.1, 5, 6, 9, 10, 11, 13).
--- 7a: the type has the name of an earlier type of its schema.
+-- Rule 7.
+-- 7a (s. 3.1, 5, 6, 9, 10, 11): the type has the name of an earlier type of its schema.
 unfoldable pub sameType : Model → ℕ → ℕ → Bool
-sameType m t u = eqb (m .schemaOf u) (m .schemaOf t) && same (text m (m .typeName u)) (text m (m .typeName t))
+sameType m t u = eqb (m .schemaOf u) (m .schemaOf t) && same (typeText m u) (typeText m t)
 
 unfoldable pub type7a : Model → ℕ → Bool
 type7a m t = anyFrom (λ u. sameType m t u) 0 t
 
--- 7b: the child has the name of an earlier child.
+-- 7b (s. 13): the child has the name of an earlier child.
 unfoldable pub child7b : Model → ℕ → Bool
-child7b m h = anyFrom (λ j. same (text m (m .childName j)) (text m (m .childName h))) 0 h
+child7b m h = anyFrom (λ j. same (childText m j) (childText m h)) 0 h
 
 unfoldable pub rule7 : Model → Record → Bool
-rule7 m r = onType (λ t. type7a m t) r || onChild (λ h. child7b m h) r
+rule7 m r = on type-table (λ t. type7a m t) r || on child-table (λ h. child7b m h) r

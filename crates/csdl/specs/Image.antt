@@ -1,6 +1,6 @@
 -- The model image: its header, its limits, its nine parts; rules 1 and 2, which speak of the whole image and the whole call.
-use Prim.Native.Nat.{ℕ, _+_, _*_}
-use mathlib.Core.List.{List}
+use Prim.Native.Nat.{ℕ, zero, suc, _+_, _*_}
+use mathlib.Core.List.{List, [], _∷_}
 use mathlib.Core.Bool.{Bool, _||_, not}
 use lib.ListN.{length}
 use lib.Dec.{eqb, ltb}
@@ -13,30 +13,44 @@ use Rattle.csdl.specs.Model.{Model, modelOf}
 abbrev pub header : List ℕ → ℕ → ℕ
 header image k = fieldOf image (16 * k) 16
 
--- Where each part begins: the tables follow the header in that order, then the name bytes.
+-- Where part k begins, from 0: after byte `at`, the parts follow one after another; the header's number i, i + 1 and so on are their counts of records, and
+-- the list has the bytes of a record of each.
+abbrev pub partFrom : List ℕ → ℕ → ℕ → List ℕ → ℕ → ℕ
+partFrom image at i sizes zero = at
+partFrom image at i [] (suc k) = at
+partFrom image at i (size ∷ sizes) (suc k) = partFrom image (at + size * header image i) (i + 1) sizes k
+
+-- The bytes of a record of each table of a model: schema, type, property, key, constraint, child, binding, segment. The name bytes follow.
+abbrev pub modelSizes : List ℕ
+modelSizes = 5 ∷ 6 ∷ 7 ∷ 6 ∷ 5 ∷ 4 ∷ 6 ∷ 3 ∷ []
+
+-- Where part k of a model begins; part 8 are the name bytes.
+abbrev pub modelPart : List ℕ → ℕ → ℕ
+modelPart image k = partFrom image 20 1 modelSizes k
+
 abbrev pub typesFrom : List ℕ → ℕ
-typesFrom image = 20 + 5 * header image 1
+typesFrom image = modelPart image 1
 
 abbrev pub propertiesFrom : List ℕ → ℕ
-propertiesFrom image = typesFrom image + 6 * header image 2
+propertiesFrom image = modelPart image 2
 
 abbrev pub keysFrom : List ℕ → ℕ
-keysFrom image = propertiesFrom image + 7 * header image 3
+keysFrom image = modelPart image 3
 
 abbrev pub constraintsFrom : List ℕ → ℕ
-constraintsFrom image = keysFrom image + 6 * header image 4
+constraintsFrom image = modelPart image 4
 
 abbrev pub childrenFrom : List ℕ → ℕ
-childrenFrom image = constraintsFrom image + 5 * header image 5
+childrenFrom image = modelPart image 5
 
 abbrev pub bindingsFrom : List ℕ → ℕ
-bindingsFrom image = childrenFrom image + 4 * header image 6
+bindingsFrom image = modelPart image 6
 
 abbrev pub segmentsFrom : List ℕ → ℕ
-segmentsFrom image = bindingsFrom image + 6 * header image 7
+segmentsFrom image = modelPart image 7
 
 abbrev pub namesFrom : List ℕ → ℕ
-namesFrom image = segmentsFrom image + 3 * header image 8
+namesFrom image = modelPart image 8
 
 abbrev pub imageEnd : List ℕ → ℕ
 imageEnd image = namesFrom image + header image 9

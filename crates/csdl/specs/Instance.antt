@@ -1,22 +1,33 @@
 -- The instance image: nodes, slots and items, field by field, as the rules see them.
 use Prim.Native.Nat.{ℕ, _+_, _-_, _*_, _/_}
-use mathlib.Core.List.{List}
-use mathlib.Core.Bool.{Bool, true, false, cond, not, _&&_, _||_}
+use mathlib.Core.List.{List, [], _∷_}
+use mathlib.Core.Bool.{Bool, false, cond, not, _||_}
 use lib.ListN.{length}
 use lib.Dec.{eqb, ltb}
 use Rattle.packed.specs.Field.{fieldOf}
 use Rattle.packed.specs.Bytes.{between}
 use Rattle.csdl.specs.Tables.{Run}
-use Rattle.csdl.specs.Image.{header}
+use Rattle.csdl.specs.Image.{header, partFrom}
 use Rattle.csdl.specs.declared.Part.{Part}
 use Rattle.csdl.specs.declared.Part.the-variants.{OfNode, OfSlot, OfItem, Outside}
 
--- The size of an item in bytes, and the width of its handle in bits.
+-- The form of an item, which the version names: its bytes; the type reference has the first, the handle the rest. The reading of an instance, rule 20,
+-- rule 29 and the bytes of an item depend on it, and nothing else does.
+pub record ItemForm : Type 0 where
+  pub version : ℕ
+  pub bytes : ℕ
+
+abbrev pub itemForm : ItemForm
+itemForm = record { version = 0x0402; bytes = 4 }
+
 abbrev pub itemBytes : ℕ
-itemBytes = 4
+itemBytes = itemForm .bytes
+
+abbrev pub handleBytes : ℕ
+handleBytes = itemForm .bytes - 1
 
 abbrev pub handleBits : ℕ
-handleBits = 24
+handleBits = 8 * handleBytes
 
 -- Node, 4 bytes: type 6, first slot 11, count 10, spare 5.
 abbrev pub nodeCount : List ℕ → ℕ
@@ -93,14 +104,21 @@ instanceOf nodes slots items =
     }
 
 -- The header is four 16-bit numbers: version, then the counts of nodes, slots and items. The tables follow in that order.
+-- The bytes of a record of each, and where part k begins; part 3 is the end.
+abbrev pub instanceSizes : List ℕ
+instanceSizes = 4 ∷ 5 ∷ itemBytes ∷ []
+
+abbrev pub instancePart : List ℕ → ℕ → ℕ
+instancePart image k = partFrom image 8 1 instanceSizes k
+
 abbrev pub slotsFrom : List ℕ → ℕ
-slotsFrom image = 8 + 4 * header image 1
+slotsFrom image = instancePart image 1
 
 abbrev pub itemsFrom : List ℕ → ℕ
-itemsFrom image = slotsFrom image + 5 * header image 2
+itemsFrom image = instancePart image 2
 
 abbrev pub instanceEnd : List ℕ → ℕ
-instanceEnd image = itemsFrom image + itemBytes * header image 3
+instanceEnd image = instancePart image 3
 
 unfoldable pub instanceIn : List ℕ → Instance
 instanceIn image =
@@ -113,7 +131,7 @@ image20a image = ltb (length image) 8
 
 -- 20b: the version is not 0402 in hexadecimal.
 abbrev pub image20b : List ℕ → Bool
-image20b image = not (eqb (header image 0) 0x0402)
+image20b image = not (eqb (header image 0) (itemForm .version))
 
 -- 20c: more than 256 nodes, 1024 slots or 2048 items.
 abbrev pub image20c : List ℕ → Bool

@@ -134,6 +134,28 @@ modelOf schemas types properties keys constraints children bindings segments nam
 abbrev pub text : Model → Name → List ℕ
 text m n = part (m .names) (n .start) (n .size)
 
+-- The text of each name of a record.
+abbrev pub namespaceText : Model → ℕ → List ℕ
+namespaceText m s = text m (m .namespace s)
+
+abbrev pub aliasText : Model → ℕ → List ℕ
+aliasText m s = text m (m .alias s)
+
+abbrev pub typeText : Model → ℕ → List ℕ
+typeText m t = text m (m .typeName t)
+
+abbrev pub propertyText : Model → ℕ → List ℕ
+propertyText m p = text m (m .propertyName p)
+
+abbrev pub keyAliasText : Model → ℕ → List ℕ
+keyAliasText m k = text m (m .keyAlias k)
+
+abbrev pub childText : Model → ℕ → List ℕ
+childText m h = text m (m .childName h)
+
+abbrev pub segmentText : Model → ℕ → List ℕ
+segmentText m g = text m (m .segmentName g)
+
 -- A name that is there; a path that is there.
 abbrev pub named : Name → Bool
 named n = not (eqb (n .size) 0)
@@ -182,91 +204,52 @@ recordAt m place =
     (cond (ltb place (segmentsAt m)) (OfBinding (place - bindingsAt m))
     (cond (ltb place (places m)) (OfSegment (place - segmentsAt m)) Nowhere)))))))
 
--- A test of the records of one table, as a test of any record.
-abbrev pub onSchema : (ℕ → Bool) → Record → Bool
-onSchema test (OfSchema s) = test s
-onSchema test (OfType t) = false
-onSchema test (OfProperty p) = false
-onSchema test (OfKey k) = false
-onSchema test (OfConstraint c) = false
-onSchema test (OfChild h) = false
-onSchema test (OfBinding b) = false
-onSchema test (OfSegment g) = false
-onSchema test Nowhere = false
+-- The eight tables of records; the places of each, from the first up to the one after its last.
+pub data Table : Type 0 where
+  schema-table type-table property-table key-table constraint-table child-table binding-table segment-table : Table
 
-abbrev pub onType : (ℕ → Bool) → Record → Bool
-onType test (OfSchema s) = false
-onType test (OfType t) = test t
-onType test (OfProperty p) = false
-onType test (OfKey k) = false
-onType test (OfConstraint c) = false
-onType test (OfChild h) = false
-onType test (OfBinding b) = false
-onType test (OfSegment g) = false
-onType test Nowhere = false
+abbrev pub firstPlace : Model → Table → ℕ
+firstPlace m schema-table = 0
+firstPlace m type-table = typesAt m
+firstPlace m property-table = propertiesAt m
+firstPlace m key-table = keysAt m
+firstPlace m constraint-table = constraintsAt m
+firstPlace m child-table = childrenAt m
+firstPlace m binding-table = bindingsAt m
+firstPlace m segment-table = segmentsAt m
 
-abbrev pub onProperty : (ℕ → Bool) → Record → Bool
-onProperty test (OfSchema s) = false
-onProperty test (OfType t) = false
-onProperty test (OfProperty p) = test p
-onProperty test (OfKey k) = false
-onProperty test (OfConstraint c) = false
-onProperty test (OfChild h) = false
-onProperty test (OfBinding b) = false
-onProperty test (OfSegment g) = false
-onProperty test Nowhere = false
+abbrev pub endPlace : Model → Table → ℕ
+endPlace m schema-table = typesAt m
+endPlace m type-table = propertiesAt m
+endPlace m property-table = keysAt m
+endPlace m key-table = constraintsAt m
+endPlace m constraint-table = childrenAt m
+endPlace m child-table = bindingsAt m
+endPlace m binding-table = segmentsAt m
+endPlace m segment-table = places m
 
-abbrev pub onKey : (ℕ → Bool) → Record → Bool
-onKey test (OfSchema s) = false
-onKey test (OfType t) = false
-onKey test (OfProperty p) = false
-onKey test (OfKey k) = test k
-onKey test (OfConstraint c) = false
-onKey test (OfChild h) = false
-onKey test (OfBinding b) = false
-onKey test (OfSegment g) = false
-onKey test Nowhere = false
+-- Tables in image order; the two are one table.
+abbrev pub tableNo : Table → ℕ
+tableNo schema-table = 0
+tableNo type-table = 1
+tableNo property-table = 2
+tableNo key-table = 3
+tableNo constraint-table = 4
+tableNo child-table = 5
+tableNo binding-table = 6
+tableNo segment-table = 7
 
-abbrev pub onConstraint : (ℕ → Bool) → Record → Bool
-onConstraint test (OfSchema s) = false
-onConstraint test (OfType t) = false
-onConstraint test (OfProperty p) = false
-onConstraint test (OfKey k) = false
-onConstraint test (OfConstraint c) = test c
-onConstraint test (OfChild h) = false
-onConstraint test (OfBinding b) = false
-onConstraint test (OfSegment g) = false
-onConstraint test Nowhere = false
+abbrev pub sameTable : Table → Table → Bool
+sameTable t u = eqb (tableNo t) (tableNo u)
 
-abbrev pub onChild : (ℕ → Bool) → Record → Bool
-onChild test (OfSchema s) = false
-onChild test (OfType t) = false
-onChild test (OfProperty p) = false
-onChild test (OfKey k) = false
-onChild test (OfConstraint c) = false
-onChild test (OfChild h) = test h
-onChild test (OfBinding b) = false
-onChild test (OfSegment g) = false
-onChild test Nowhere = false
-
-abbrev pub onBinding : (ℕ → Bool) → Record → Bool
-onBinding test (OfSchema s) = false
-onBinding test (OfType t) = false
-onBinding test (OfProperty p) = false
-onBinding test (OfKey k) = false
-onBinding test (OfConstraint c) = false
-onBinding test (OfChild h) = false
-onBinding test (OfBinding b) = test b
-onBinding test (OfSegment g) = false
-onBinding test Nowhere = false
-
-abbrev pub onSegment : (ℕ → Bool) → Record → Bool
-onSegment test (OfSchema s) = false
-onSegment test (OfType t) = false
-onSegment test (OfProperty p) = false
-onSegment test (OfKey k) = false
-onSegment test (OfConstraint c) = false
-onSegment test (OfChild h) = false
-onSegment test (OfBinding b) = false
-onSegment test (OfSegment g) = test g
-onSegment test Nowhere = false
+-- A test of the records of table t, as a test of any record: those of other tables do not pass.
+abbrev pub on : Table → (ℕ → Bool) → Record → Bool
+on t test (OfSchema s) = sameTable t schema-table && test s
+on t test (OfType u) = sameTable t type-table && test u
+on t test (OfProperty p) = sameTable t property-table && test p
+on t test (OfKey k) = sameTable t key-table && test k
+on t test (OfConstraint c) = sameTable t constraint-table && test c
+on t test (OfChild h) = sameTable t child-table && test h
+on t test (OfBinding b) = sameTable t binding-table && test b
+on t test (OfSegment g) = sameTable t segment-table && test g
+on t test Nowhere = false

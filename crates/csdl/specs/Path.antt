@@ -1,13 +1,13 @@
 -- Paths: the six kinds with their start types, their segments, and their resolution segment by segment.
-use Prim.Native.Nat.{ℕ, zero, suc, _+_, _-_}
+use Prim.Native.Nat.{ℕ, _-_}
 use mathlib.Core.List.{List, [], _∷_}
-use mathlib.Core.Bool.{Bool, true, false, cond, not, _&&_, _||_}
-use lib.Dec.{eqb, ltb, leb}
+use mathlib.Core.Bool.{Bool, true, false, cond, not, _&&_}
+use lib.Dec.{eqb}
 use Rattle.packed.specs.Bytes.{same}
-use Rattle.csdl.specs.Search.{firstFrom, anyFrom, countFrom, tab}
+use Rattle.csdl.specs.Search.{firstFrom, countFrom, tab, sumOf, ifFound}
 use Rattle.csdl.specs.Tables.{Run}
-use Rattle.csdl.specs.Model.{Model, text, inRun}
-use Rattle.csdl.specs.Find.{structured, isAt, find}
+use Rattle.csdl.specs.Model.{Model, segmentText, inRun}
+use Rattle.csdl.specs.Find.{structured, ancestorOrSelf, find}
 
 -- A segment of a path: a name, as its bytes, or a cast to a type.
 pub data Segment : Type 0 where
@@ -20,7 +20,7 @@ pub data Step : Type 0 where
   type : ℕ → Step
 
 unfoldable pub segmentAt : Model → ℕ → Segment
-segmentAt m g = cond (m .isCast g) (cast (m .castType g)) (name (text m (m .segmentName g)))
+segmentAt m g = cond (m .isCast g) (cast (m .castType g)) (name (segmentText m g))
 
 abbrev pub segmentsOf : Model → Run → List Segment
 segmentsOf m r = tab (λ g. segmentAt m g) (r .first) (r .count)
@@ -29,7 +29,7 @@ segmentsOf m r = tab (λ g. segmentAt m g) (r .first) (r .count)
 -- A cast needs a structured target at the current type, and moves to it.
 unfoldable pub resolvesAt : Model → ℕ → Segment → Bool
 resolvesAt m t (name nm) = structured m t && not (eqb (find m nm t) 0)
-resolvesAt m t (cast c) = structured m c && isAt m t c
+resolvesAt m t (cast c) = structured m c && ancestorOrSelf m t c
 
 unfoldable pub movesTo : Model → ℕ → Segment → ℕ
 movesTo m t (name nm) = m .typeRef (find m nm t - 1)
@@ -62,9 +62,12 @@ endOf m t gs = alongEnd (λ u g. movesTo m u g) t gs
 abbrev pub stepsOf : Model → ℕ → List Segment → List Step
 stepsOf m t gs = along (λ u g. stepAt m u g) (λ u g. movesTo m u g) t gs
 
--- The six kinds of path.
+-- The six kinds of path, and the list of them all: rule 13 sums over it, rule 14 asks some of it, the resolution takes the first.
 pub data Kind : Type 0 where
   partner key dependent principal binding target : Kind
+
+abbrev pub kinds : List Kind
+kinds = partner ∷ key ∷ dependent ∷ principal ∷ binding ∷ target ∷ []
 
 -- How many records may hold a path of the kind; the path that record r holds; the type it starts at.
 unfoldable pub holders : Model → Kind → ℕ
@@ -100,10 +103,15 @@ pathSteps m w r = stepsOf m (startOf m w r) (segmentsOf m (pathOf m w r))
 abbrev pub pathEnd : Model → Kind → ℕ → ℕ
 pathEnd m w r = endOf m (startOf m w r) (segmentsOf m (pathOf m w r))
 
--- How many paths of the kind hold segment g; the first record whose path does (0 for none, else its number and 1).
+-- How many paths of the kind hold segment g.
 unfoldable pub holding : Model → Kind → ℕ → ℕ
 holding m w g = countFrom (λ r. inRun (pathOf m w r) g) 0 (holders m w)
 
+-- How many paths hold segment g, of all kinds.
+unfoldable pub pathsHolding : Model → ℕ → ℕ
+pathsHolding m g = sumOf (λ w. holding m w g) kinds
+
+-- The first record whose path of the kind holds segment g: 0 for none, else its number plus 1.
 unfoldable pub holderOf : Model → Kind → ℕ → ℕ
 holderOf m w g = firstFrom (λ r. inRun (pathOf m w r) g) 0 (holders m w)
 
@@ -113,21 +121,14 @@ stepIn m w r g =
     let run = pathOf m w r in
     stepAt m (endOf m (startOf m w r) (tab (λ k. segmentAt m k) (run .first) (g - run .first))) (segmentAt m g)
 
--- The same, if some path of the kind holds g, else what is known from the other kinds.
-abbrev pub stepOr : Model → Kind → ℕ → Step → ℕ → Step
-stepOr m w g other zero = other
-stepOr m w g other (suc r) = stepIn m w r g
+-- What f makes of the first kind of the list and its first record whose path holds g; d where no path does.
+unfoldable pub byHolder : {A : Type 0} → Model → ℕ → (Kind → ℕ → A) → A → List Kind → A
+byHolder m g f d [] = d
+byHolder m g f d (w ∷ ws) = let rest = byHolder m g f d ws in ifFound rest (λ r. f w r) (holderOf m w g)
 
--- What segment g resolves to, by the path that holds it.
+-- What segment g resolves to, by the path that holds it; where none does, rule 13 is broken.
 unfoldable pub stepOfSegment : Model → ℕ → Step
-stepOfSegment m g =
-    stepOr m partner g
-    (stepOr m key g
-    (stepOr m dependent g
-    (stepOr m principal g (stepOr m binding g (stepOr m target g (type 0) (holderOf m target g)) (holderOf m binding g)) (holderOf m principal g))
-    (holderOf m dependent g))
-    (holderOf m key g))
-    (holderOf m partner g)
+stepOfSegment m g = byHolder m g (λ w r. stepIn m w r g) (type 0) kinds
 
 -- Tests of a step.
 abbrev pub isType : Step → Bool

@@ -1,13 +1,15 @@
 -- Rules 13 to 19: segments, keys, constraints, partners, children, bindings.
-use Prim.Native.Nat.{ℕ, suc, _+_, _-_}
-use mathlib.Core.List.{List, [], _∷_}
-use mathlib.Core.Bool.{Bool, true, false, cond, not, _&&_, _||_}
+use Prim.Native.Nat.{ℕ, _+_, _-_}
+use mathlib.Core.List.{List}
+use mathlib.Core.Bool.{Bool, cond, not, _&&_, _||_}
 use lib.Dec.{eqb, ltb, leb}
 use Rattle.packed.specs.Bytes.{same}
-use Rattle.csdl.specs.Search.{anyFrom, tab, some, butLast, lastOr}
-use Rattle.csdl.specs.Model.{Model, text, named, present, inRun, onProperty, onKey, onConstraint, onChild, onBinding, onSegment}
-use Rattle.csdl.specs.Find.{entity, complex, enumeration, definition, ancestor, isAt, top, find, complexStep, containStep, hasKey}
-use Rattle.csdl.specs.Path.{Segment, Step, Kind, segmentAt, segmentsOf, resolves, pathOf, startOf, pathSteps, pathEnd, holders, holding, isType, isProperty, isOther, propertyOf, sameSegments}
+use Rattle.csdl.specs.Search.{anyFrom, tab, some, isEmpty, butLast, lastOr, lastFails}
+use Rattle.csdl.specs.Model.{Model, keyAliasText, segmentText, named, present, inRun, on}
+use Rattle.csdl.specs.Model.Table.{property-table, key-table, constraint-table, child-table, binding-table, segment-table}
+use Rattle.csdl.specs.Find.{entity, complex, enumeration, definition, ancestor, ancestorOrSelf, top, find, complexStep, containStep, hasKey}
+use Rattle.csdl.specs.Properties.{alike}
+use Rattle.csdl.specs.Path.{Step, Kind, segmentAt, segmentsOf, resolves, pathOf, startOf, pathSteps, pathEnd, kinds, holders, pathsHolding, isType, isProperty, isOther, propertyOf, sameSegments}
 use Rattle.csdl.specs.Path as path
 use Rattle.csdl.specs.Path.Step.{property, type}
 use Rattle.csdl.specs.Path.Kind.{partner, key, dependent, principal, binding, target}
@@ -15,28 +17,39 @@ use Rattle.csdl.specs.declared.Record.{Record}
 
 -- Rule 13 (house), of a segment. 13a: it is in no path, or in two or more.
 unfoldable pub segment13 : Model → ℕ → Bool
-segment13 m g =
-    not (eqb (holding m partner g + holding m key g + holding m dependent g + holding m principal g + holding m binding g + holding m target g) 1)
+segment13 m g = not (eqb (pathsHolding m g) 1)
 
 abbrev pub rule13 : Model → Record → Bool
-rule13 m r = onSegment (λ g. segment13 m g) r
+rule13 m r = on segment-table (λ g. segment13 m g) r
 
--- Rule 14 (s. 13.4.1, 14.4.1.1), of a segment.
--- 14a, 14b: segment g is of the path of record r, and the path does not resolve as far as g: a name at a type that is not structured
--- or has no such name (14a), a cast to a type that is not structured or not at the current type (14b).
-unfoldable pub stuckIn : Model → Kind → ℕ → ℕ → Bool
-stuckIn m w g r =
+-- Rule 14, of a segment. It does not resolve, as one of the path of record r: the path does not resolve as far as segment g.
+unfoldable pub unresolvedIn : Model → Kind → ℕ → ℕ → Bool
+unresolvedIn m w g r =
     let run = pathOf m w r in
     inRun run g && not (resolves m (startOf m w r) (tab (λ k. segmentAt m k) (run .first) (g + 1 - run .first)))
 
-unfoldable pub stuck : Model → Kind → ℕ → Bool
-stuck m w g = anyFrom (λ r. stuckIn m w g r) 0 (holders m w)
+-- As one of some path of the kind; as one of some path.
+unfoldable pub unresolvedOf : Model → Kind → ℕ → Bool
+unresolvedOf m w g = anyFrom (λ r. unresolvedIn m w g r) 0 (holders m w)
+
+unfoldable pub unresolved : Model → ℕ → Bool
+unresolved m g = some (λ w. unresolvedOf m w g) kinds
+
+-- 14a (s. 6.5, 8.3, 8.5, 13.4.1, 13.4.2, 14.4.1.1): a name that does not resolve: the type before it is not structured or has no such name, or is not known, since
+-- an earlier segment does not resolve.
+abbrev pub segment14a : Model → ℕ → Bool
+segment14a m g = not (m .isCast g) && unresolved m g
+
+-- 14b (document 01; by s. 14.4.1.1 such a cast gives null): a cast that does not resolve: its type is not structured or not at the type before it,
+-- or that is not known.
+abbrev pub segment14b : Model → ℕ → Bool
+segment14b m g = m .isCast g && unresolved m g
 
 unfoldable pub segment14 : Model → ℕ → Bool
-segment14 m g = stuck m partner g || stuck m key g || stuck m dependent g || stuck m principal g || stuck m binding g || stuck m target g
+segment14 m g = segment14a m g || segment14b m g
 
 abbrev pub rule14 : Model → Record → Bool
-rule14 m r = onSegment (λ g. segment14 m g) r
+rule14 m r = on segment-table (λ g. segment14 m g) r
 
 -- A path has a cast.
 abbrev pub hasCast : List Step → Bool
@@ -67,7 +80,7 @@ keyEnd m p = not (m .collection p) && not (m .nullable p) && keyType m (m .typeR
 
 -- The name of a key: its alias, else the name of its one segment.
 unfoldable pub keyName : Model → ℕ → List ℕ
-keyName m k = cond (named (m .keyAlias k)) (text m (m .keyAlias k)) (text m (m .segmentName (m .keyPath k .first)))
+keyName m k = cond (named (m .keyAlias k)) (keyAliasText m k) (segmentText m (m .keyPath k .first))
 
 -- 15a: the owner is no entity type.
 abbrev pub key15a : Model → ℕ → Bool
@@ -91,7 +104,7 @@ key15e m k = isOther (λ p. keyEnd m p) (lastStep (pathSteps m key k))
 
 -- 15f: an alias is not present exactly when the path has more than one segment.
 abbrev pub key15f : Model → ℕ → Bool
-key15f m k = cond (named (m .keyAlias k)) (leb (m .keyPath k .count) 1) (ltb 1 (m .keyPath k .count))
+key15f m k = not (alike (named (m .keyAlias k)) (ltb 1 (m .keyPath k .count)))
 
 -- 15g: an earlier key record of the owner has the name.
 unfoldable pub key15g : Model → ℕ → Bool
@@ -99,15 +112,15 @@ key15g m k = anyFrom (λ j. eqb (m .keyOwner j) (m .keyOwner k) && same (keyName
 
 -- 15h: the alias is the name of a property of the owner or an ancestor.
 abbrev pub key15h : Model → ℕ → Bool
-key15h m k = named (m .keyAlias k) && not (eqb (find m (text m (m .keyAlias k)) (m .keyOwner k)) 0)
+key15h m k = named (m .keyAlias k) && not (eqb (find m (keyAliasText m k) (m .keyOwner k)) 0)
 
 unfoldable pub key15 : Model → ℕ → Bool
 key15 m k = key15a m k || key15b m k || key15c m k || (key15d m k || key15e m k) || key15f m k || key15g m k || key15h m k
 
 abbrev pub rule15 : Model → Record → Bool
-rule15 m r = onKey (λ k. key15 m k) r
+rule15 m r = on key-table (λ k. key15 m k) r
 
--- Rule 16 (s. 8.5; 16d house), of a constraint. The last properties of its two paths.
+-- Rule 16 (s. 8.5, but for 16d), of a constraint. The last properties of its two paths.
 abbrev pub dependentEnd : Model → ℕ → ℕ
 dependentEnd m c = lastProperty (pathSteps m dependent c)
 
@@ -118,10 +131,6 @@ principalEnd m c = lastProperty (pathSteps m principal c)
 unfoldable pub constraintStep : Model → ℕ → Bool
 constraintStep m p = not (m .collection p) && complexStep m p
 
--- A path of a constraint has a step but the last that is not single complex; its last is a navigation property.
-unfoldable pub constraintPath : Model → List Step → Bool
-constraintPath m l = some (λ s. isOther (λ p. constraintStep m p) s) (butLast l) || isProperty (λ p. m .navigation p) (lastStep l)
-
 -- 16a: the property is not a single navigation property.
 abbrev pub constraint16a : Model → ℕ → Bool
 constraint16a m c = not (m .navigation (m .constrained c)) || m .collection (m .constrained c)
@@ -130,13 +139,23 @@ constraint16a m c = not (m .navigation (m .constrained c)) || m .collection (m .
 unfoldable pub constraint16b : Model → ℕ → Bool
 constraint16b m c = hasCast (pathSteps m dependent c) || hasCast (pathSteps m principal c)
 
--- 16c, 16d: in either path, a step but the last is not single complex, or the last is not structural.
-unfoldable pub constraint16cd : Model → ℕ → Bool
-constraint16cd m c = constraintPath m (pathSteps m dependent c) || constraintPath m (pathSteps m principal c)
+-- 16c: in either path, a step but the last is not single complex.
+unfoldable pub brokenInner : Model → List Step → Bool
+brokenInner m l = some (λ s. isOther (λ p. constraintStep m p) s) (butLast l)
+
+abbrev pub constraint16c : Model → ℕ → Bool
+constraint16c m c = brokenInner m (pathSteps m dependent c) || brokenInner m (pathSteps m principal c)
+
+-- 16d (house): the last of either path is not structural.
+abbrev pub endNavigates : Model → List Step → Bool
+endNavigates m l = isProperty (λ p. m .navigation p) (lastStep l)
+
+abbrev pub constraint16d : Model → ℕ → Bool
+constraint16d m c = endNavigates m (pathSteps m dependent c) || endNavigates m (pathSteps m principal c)
 
 -- 16e: types or collection bits differ, and not both are single complex.
 unfoldable pub sameShape : Model → ℕ → ℕ → Bool
-sameShape m d r = eqb (m .typeRef d) (m .typeRef r) && cond (m .collection d) (m .collection r) (not (m .collection r))
+sameShape m d r = eqb (m .typeRef d) (m .typeRef r) && alike (m .collection d) (m .collection r)
 
 unfoldable pub bothComplex : Model → ℕ → ℕ → Bool
 bothComplex m d r = not (m .collection d) && not (m .collection r) && complex m (m .typeRef d) && complex m (m .typeRef r)
@@ -146,16 +165,15 @@ constraint16e m c = not (sameShape m (dependentEnd m c) (principalEnd m c)) && n
 
 -- 16f: the dependent is not nullable exactly when the navigation property or the principal is.
 abbrev pub constraint16f : Model → ℕ → Bool
-constraint16f m c =
-    cond (m .nullable (m .constrained c) || m .nullable (principalEnd m c)) (not (m .nullable (dependentEnd m c))) (m .nullable (dependentEnd m c))
+constraint16f m c = not (alike (m .nullable (dependentEnd m c)) (m .nullable (m .constrained c) || m .nullable (principalEnd m c)))
 
 unfoldable pub constraint16 : Model → ℕ → Bool
-constraint16 m c = constraint16a m c || constraint16b m c || constraint16cd m c || constraint16e m c || constraint16f m c
+constraint16 m c = constraint16a m c || constraint16b m c || constraint16c m c || constraint16d m c || constraint16e m c || constraint16f m c
 
 abbrev pub rule16 : Model → Record → Bool
-rule16 m r = onConstraint (λ c. constraint16 m c) r
+rule16 m r = on constraint-table (λ c. constraint16 m c) r
 
--- Rule 17 (s. 8.3, 8.4), of a property that has a partner path. The property that the path leads to.
+-- Rule 17, of a property that has a partner path. The property that the path leads to.
 abbrev pub partnerOf : Model → ℕ → ℕ
 partnerOf m p = lastProperty (pathSteps m partner p)
 
@@ -163,19 +181,19 @@ partnerOf m p = lastProperty (pathSteps m partner p)
 abbrev pub leadsTo : ℕ → Step → Bool
 leadsTo p s = isProperty (λ q. eqb q p) s
 
--- 17a: the last segment is a cast, or no navigation property.
+-- 17a (s. 8.3): the last segment is a cast, or no navigation property.
 abbrev pub property17a : Model → ℕ → Bool
 property17a m p = not (isProperty (λ q. m .navigation q) (lastStep (pathSteps m partner p)))
 
--- 17b: an earlier segment is a navigation property.
+-- 17b (s. 8.3): an earlier segment is a navigation property.
 abbrev pub property17b : Model → ℕ → Bool
 property17b m p = some (λ s. isProperty (λ q. m .navigation q) s) (butLast (pathSteps m partner p))
 
--- 17c: the owner is not at the partner's type.
+-- 17c (s. 8.3): the owner is not at the partner's type.
 abbrev pub property17c : Model → ℕ → Bool
-property17c m p = not (isAt m (m .typeRef (partnerOf m p)) (m .owner p))
+property17c m p = not (ancestorOrSelf m (m .typeRef (partnerOf m p)) (m .owner p))
 
--- 17d: the partner has a partner other than this property.
+-- 17d (s. 8.3): the partner has a partner other than this property.
 abbrev pub property17d : Model → ℕ → Bool
 property17d m p = present (m .partner (partnerOf m p)) && not (leadsTo p (lastStep (pathSteps m partner (partnerOf m p))))
 
@@ -186,7 +204,7 @@ property17e m p =
 
 -- 17f (s. 8.4): the partner contains, as does that of another property of the owner or an ancestor.
 unfoldable pub otherContained : Model → ℕ → ℕ → Bool
-otherContained m p q = not (eqb q p) && present (m .partner q) && isAt m (m .owner q) (m .owner p) && isProperty (λ x. m .contains x) (lastStep (pathSteps m partner q))
+otherContained m p q = not (eqb q p) && present (m .partner q) && ancestorOrSelf m (m .owner q) (m .owner p) && isProperty (λ x. m .contains x) (lastStep (pathSteps m partner q))
 
 abbrev pub property17f : Model → ℕ → Bool
 property17f m p = m .contains (partnerOf m p) && anyFrom (λ q. otherContained m p q) 0 (m .properties)
@@ -197,22 +215,22 @@ property17 m p =
     && (property17a m p || property17b m p || property17c m p || property17d m p || property17e m p || property17f m p)
 
 abbrev pub rule17 : Model → Record → Bool
-rule17 m r = onProperty (λ p. property17 m p) r
+rule17 m r = on property-table (λ p. property17 m p) r
 
--- Rule 18 (s. 6.5, 8.1, 8.4, 13.2, 13.3).
--- 18a: a contained collection of a type that has no key, own or inherited.
+-- Rule 18.
+-- 18a (s. 6.5, 8.1, 8.4): a contained collection of a type that has no key, own or inherited.
 unfoldable pub property18a : Model → ℕ → Bool
 property18a m p = m .navigation p && m .contains p && m .collection p && not (hasKey m (m .typeRef p))
 
--- 18b: an entity set of a type that has no key.
+-- 18b (s. 6.5, 13.2): an entity set of a type that has no key.
 abbrev pub child18b : Model → ℕ → Bool
 child18b m h = not (m .singleton h) && not (hasKey m (m .childType h))
 
--- 18c: a child whose type is no entity type.
+-- 18c (s. 13.2, 13.3): a child whose type is no entity type.
 abbrev pub child18c : Model → ℕ → Bool
 child18c m h = not (entity m (m .childType h))
 
--- 18d: an entity set with nullable.
+-- 18d (s. 13.2, which has no such attribute): an entity set with nullable.
 abbrev pub child18d : Model → ℕ → Bool
 child18d m h = not (m .singleton h) && m .childNullable h
 
@@ -220,23 +238,30 @@ unfoldable pub child18 : Model → ℕ → Bool
 child18 m h = child18b m h || child18c m h || child18d m h
 
 unfoldable pub rule18 : Model → Record → Bool
-rule18 m r = onProperty (λ p. property18a m p) r || onChild (λ h. child18 m h) r
+rule18 m r = on property-table (λ p. property18a m p) r || on child-table (λ h. child18 m h) r
 
--- Rule 19 (s. 13.4; 19h house), of a binding.
+-- Rule 19, of a binding.
 -- A navigation property without containment.
-unfoldable pub crosses : Model → ℕ → Bool
-crosses m p = m .navigation p && not (m .contains p)
+unfoldable pub nonContainment : Model → ℕ → Bool
+nonContainment m p = m .navigation p && not (m .contains p)
 
--- The form of a binding's path, given what its last name has to be. 19a: it has no name. 19b: its last name, which casts may
--- follow, does not pass the test. 19c: an earlier name is a navigation property without containment.
-unfoldable pub bindingForm : Model → (ℕ → Bool) → List ℕ → Bool
-bindingForm m test [] = true
-bindingForm m test (p ∷ l) = not (test (lastOr p l)) || some (λ q. crosses m q) (butLast (p ∷ l))
+-- The properties of the names of a binding's path, in order; casts are left out.
+abbrev pub bindingNames : Model → ℕ → List ℕ
+bindingNames m b = path.properties (pathSteps m binding b)
 
-abbrev pub binding19abc : Model → ℕ → Bool
-binding19abc m b = bindingForm m (λ p. crosses m p) (path.properties (pathSteps m binding b))
+-- 19a (s. 13.4.1): the path has no name.
+abbrev pub binding19a : Model → ℕ → Bool
+binding19a m b = isEmpty (bindingNames m b)
 
--- 19d: an earlier binding of the child has the same segments.
+-- 19b (s. 8.4, 13.4.1): its last name, which casts may follow, is not a navigation property without containment.
+abbrev pub binding19b : Model → ℕ → Bool
+binding19b m b = lastFails (λ p. nonContainment m p) (bindingNames m b)
+
+-- 19c (s. 13.4.1): an earlier name is one.
+abbrev pub binding19c : Model → ℕ → Bool
+binding19c m b = some (λ p. nonContainment m p) (butLast (bindingNames m b))
+
+-- 19d (s. 13.4.1): an earlier binding of the child has the same segments.
 unfoldable pub binding19d : Model → ℕ → Bool
 binding19d m b =
     anyFrom (λ j. eqb (m .bindingChild j) (m .bindingChild b) && sameSegments (segmentsOf m (m .bindingPath j)) (segmentsOf m (m .bindingPath b))) 0 b
@@ -245,27 +270,24 @@ binding19d m b =
 abbrev pub binding19e : Model → ℕ → Bool
 binding19e m b = present (m .targetPath b) && not (m .singleton (m .target b))
 
--- 19f: the target path has a cast.
+-- 19f (document 01; s. 15.4 allows it): the target path has a cast.
 abbrev pub binding19f : Model → ℕ → Bool
 binding19f m b = hasCast (pathSteps m target b)
 
--- 19g: a step of the target path but the last is not single and complex or containment; the last is no containment.
+-- 19g (s. 13.4.2): a step of the target path but the last is not single and complex or containment; the last is no containment.
 unfoldable pub targetStep : Model → ℕ → Bool
 targetStep m p = not (m .collection p) && (complexStep m p || containStep m p)
 
-unfoldable pub targetForm : Model → List Step → Bool
-targetForm m [] = false
-targetForm m (s ∷ l) = some (λ x. isOther (λ p. targetStep m p) x) (butLast (s ∷ l)) || isOther (λ p. containStep m p) (lastOr s l)
-
 abbrev pub binding19g : Model → ℕ → Bool
-binding19g m b = targetForm m (pathSteps m target b)
+binding19g m b =
+    some (λ s. isOther (λ p. targetStep m p) s) (butLast (pathSteps m target b)) || isOther (λ p. containStep m p) (lastStep (pathSteps m target b))
 
--- 19h: path and target end at types neither of which is at the other.
+-- 19h (house): path and target end at types neither of which is at the other.
 abbrev pub binding19h : Model → ℕ → Bool
-binding19h m b = not (isAt m (pathEnd m binding b) (pathEnd m target b)) && not (isAt m (pathEnd m target b) (pathEnd m binding b))
+binding19h m b = not (ancestorOrSelf m (pathEnd m binding b) (pathEnd m target b)) && not (ancestorOrSelf m (pathEnd m target b) (pathEnd m binding b))
 
 unfoldable pub binding19 : Model → ℕ → Bool
-binding19 m b = binding19abc m b || binding19d m b || binding19e m b || binding19f m b || binding19g m b || binding19h m b
+binding19 m b = binding19a m b || binding19b m b || binding19c m b || binding19d m b || binding19e m b || binding19f m b || binding19g m b || binding19h m b
 
 abbrev pub rule19 : Model → Record → Bool
-rule19 m r = onBinding (λ b. binding19 m b) r
+rule19 m r = on binding-table (λ b. binding19 m b) r

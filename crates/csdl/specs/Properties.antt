@@ -5,13 +5,14 @@ use lib.Dec.{eqb}
 use Rattle.packed.specs.Bytes.{same}
 use Rattle.csdl.specs.Search.{anyFrom}
 use Rattle.csdl.specs.Climb.{reaches}
-use Rattle.csdl.specs.Model.{Model, text, present, onType, onProperty}
-use Rattle.csdl.specs.Find.{entity, complex, definition, structured, ancestor, isAt, integral}
+use Rattle.csdl.specs.Model.{Model, propertyText, present, on}
+use Rattle.csdl.specs.Model.Table.{type-table, property-table}
+use Rattle.csdl.specs.Find.{entity, complex, definition, structured, ancestor, ancestorOrSelf, integral}
 use Rattle.csdl.specs.declared.Record.{Record}
 
 -- Stream (64 + 15), or a type definition of it.
-unfoldable pub streams : Model → ℕ → Bool
-streams m x = eqb x 79 || definition m x && eqb (m .underlying x) 15
+unfoldable pub isStream : Model → ℕ → Bool
+isStream m x = eqb x 79 || definition m x && eqb (m .underlying x) 15
 
 -- Rule 10, of a property.
 -- 10a (s. 7, 8): the owner is not structured.
@@ -26,11 +27,11 @@ property10b m p = m .navigation p && not (entity m (m .typeRef p))
 abbrev pub property10c : Model → ℕ → Bool
 property10c m p = not (m .navigation p) && entity m (m .typeRef p)
 
--- 10d (s. 8.4): a structural property that contains.
+-- 10d (s. 7, 8.4): a structural property that contains.
 abbrev pub property10d : Model → ℕ → Bool
 property10d m p = not (m .navigation p) && m .contains p
 
--- 10e (s. 8.3): a structural property with a partner.
+-- 10e (s. 7, 8.3): a structural property with a partner.
 abbrev pub property10e : Model → ℕ → Bool
 property10e m p = not (m .navigation p) && present (m .partner p)
 
@@ -40,7 +41,7 @@ property10f m p = m .navigation p && m .collection p && m .nullable p
 
 -- 10g (s. 3.3): a collection of Stream, or of a type definition of it.
 abbrev pub property10g : Model → ℕ → Bool
-property10g m p = m .collection p && streams m (m .typeRef p)
+property10g m p = m .collection p && isStream m (m .typeRef p)
 
 -- 10h (s. 8.3): a partner on a complex owner.
 abbrev pub property10h : Model → ℕ → Bool
@@ -51,15 +52,15 @@ property10 m p =
     property10a m p || property10b m p || property10c m p || property10d m p || property10e m p || property10f m p || property10g m p || property10h m p
 
 abbrev pub rule10 : Model → Record → Bool
-rule10 m r = onProperty (λ p. property10 m p) r
+rule10 m r = on property-table (λ p. property10 m p) r
 
--- Rule 11 (s. 7, 8; the last part house), of a property.
+-- Rule 11 (s. 7, 8; house: collection, nullable, contains agree), of a property.
 abbrev pub alike : Bool → Bool → Bool
 alike true b = b
 alike false b = not b
 
 unfoldable pub sameName : Model → ℕ → ℕ → Bool
-sameName m p q = same (text m (m .propertyName p)) (text m (m .propertyName q))
+sameName m p q = same (propertyText m p) (propertyText m q)
 
 -- p may redeclare q: both or neither navigate, p's type derives from q's, and collection, nullable, contains agree.
 unfoldable pub redeclares : Model → ℕ → ℕ → Bool
@@ -80,7 +81,7 @@ unfoldable pub property11 : Model → ℕ → Bool
 property11 m p = property11a m p || property11b m p
 
 abbrev pub rule11 : Model → Record → Bool
-rule11 m r = onProperty (λ p. property11 m p) r
+rule11 m r = on property-table (λ p. property11 m p) r
 
 -- Rule 12 (s. 3.2, 7.1, 8.1), of a type.
 -- A property that gives steps: single, not nullable, complex or containment.
@@ -89,11 +90,11 @@ required m p = not (m .collection p) && not (m .nullable p) && integral m p
 
 -- One step from t goes to the type of a required property of t or of an ancestor.
 unfoldable pub requiredStep : Model → ℕ → ℕ → Bool
-requiredStep m t u = anyFrom (λ p. required m p && eqb (m .typeRef p) u && isAt m (m .owner p) t) 0 (m .properties)
+requiredStep m t u = anyFrom (λ p. required m p && eqb (m .typeRef p) u && ancestorOrSelf m (m .owner p) t) 0 (m .properties)
 
 -- 12a: the type reaches itself in one or more steps.
 unfoldable pub type12 : Model → ℕ → Bool
 type12 m t = reaches (λ a b. requiredStep m a b) (m .types) t t
 
 abbrev pub rule12 : Model → Record → Bool
-rule12 m r = onType (λ t. type12 m t) r
+rule12 m r = on type-table (λ t. type12 m t) r

@@ -1,10 +1,9 @@
 -- Searches and counts over numbers, and lists made of them. Every loop of the definitions is one of these.
 use Prim.Native.Nat.{ℕ, zero, suc, _+_, _-_}
 use mathlib.Core.List.{List, [], _∷_, _++_}
-use mathlib.Core.Bool.{Bool, true, false, cond, _&&_, _||_}
-use lib.Dec.{eqb}
+use mathlib.Core.Bool.{Bool, true, false, cond, not, _&&_, _||_}
 
--- The first of the n numbers from i on that passes the test, and 1; 0 where none does.
+-- The first of the n numbers from i on that passes the test, plus 1; 0 where none does.
 unfoldable pub firstFrom : (ℕ → Bool) → ℕ → ℕ → ℕ
 firstFrom test i zero = 0
 firstFrom test i (suc n) = let rest = firstFrom test (i + 1) n in cond (test i) (suc i) rest
@@ -47,6 +46,11 @@ unfoldable pub some : {A : Type 0} → (A → Bool) → List A → Bool
 some test [] = false
 some test (x ∷ l) = test x || some test l
 
+-- The sum of f over the elements.
+unfoldable pub sumOf : {A : Type 0} → (A → ℕ) → List A → ℕ
+sumOf f [] = 0
+sumOf f (x ∷ l) = f x + sumOf f l
+
 -- All elements but the last.
 unfoldable pub butLast : {A : Type 0} → List A → List A
 butLast [] = []
@@ -58,7 +62,21 @@ unfoldable pub lastOr : {A : Type 0} → A → List A → A
 lastOr d [] = d
 lastOr d (x ∷ l) = lastOr x l
 
--- The first of two partial answers: 0 for none, else a number and 1.
+-- There is no element; there is a last one, and it does not pass the test.
+unfoldable pub isEmpty : {A : Type 0} → List A → Bool
+isEmpty [] = true
+isEmpty (x ∷ l) = false
+
+unfoldable pub lastFails : {A : Type 0} → (A → Bool) → List A → Bool
+lastFails test [] = false
+lastFails test (x ∷ l) = not (test (lastOr x l))
+
+-- A partial answer is 0 for none, else a number plus 1. What f makes of the number; d for none.
+abbrev pub ifFound : {A : Type 0} → A → (ℕ → A) → ℕ → A
+ifFound d f zero = d
+ifFound d f (suc k) = f k
+
+-- The first of two partial answers.
 abbrev pub orElse : ℕ → ℕ → ℕ
 orElse zero r = r
 orElse (suc p) r = suc p

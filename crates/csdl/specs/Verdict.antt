@@ -1,10 +1,10 @@
 -- Verdicts: the first broken stage of a list and the lowest place that breaks it, or acceptance.
-use Prim.Native.Nat.{ℕ, zero, suc, _+_, _*_}
+use Prim.Native.Nat.{ℕ, _+_, _*_}
 use mathlib.Core.List.{List, [], _∷_, _++_}
-use mathlib.Core.Bool.{Bool, true, false, cond}
+use mathlib.Core.Bool.{Bool, cond}
 use lib.ListN.{drop}
 use Rattle.packed.specs.Bytes.{highByte, lowByte}
-use Rattle.csdl.specs.Search.{firstFrom, tab, flat}
+use Rattle.csdl.specs.Search.{firstFrom, tab, flat, ifFound}
 use Rattle.csdl.specs.Model.{Model, places, recordAt}
 use Rattle.csdl.specs.Path.{Step, stepOfSegment}
 use Rattle.csdl.specs.Path.Step.{property, type}
@@ -44,10 +44,9 @@ pub data Stage : Type 0 where
   whole : ℕ → Bool → Stage
   each : ℕ → (ℕ → Bool) → Stage
 
--- The refusal at a place that was found (0 for none, else the place and 1), else the answer of what follows.
+-- The refusal at a place that was found (0 for none, else the place plus 1), else the answer of what follows.
 abbrev pub refuse : ℕ → ℕ → Answer → Answer
-refuse rule zero later = later
-refuse rule (suc place) later = refused rule place
+refuse rule found later = ifFound later (λ place. refused rule place) found
 
 -- The first broken stage of the list and the lowest of the n places that breaks it; the given answer where none is broken.
 unfoldable pub verdict : ℕ → List Stage → Answer → Answer

@@ -3,20 +3,19 @@
 use Prim.Native.Nat.{ℕ, zero, suc, _+_, _-_, _*_, _/_, _%_, _^_}
 use mathlib.Core.List.{List, [], _∷_, _++_}
 use mathlib.Core.Bool.{Bool, true, false, cond, not, _&&_, _||_}
-use lib.ListN.{length, drop}
-use lib.Dec.{eqb, ltb, leb}
+use lib.ListN.{length}
+use lib.Dec.{eqb, ltb}
 use Rattle.packed.specs.Bytes.{same}
-use Rattle.csdl.specs.Search.{firstFrom, tab, flat, all}
-use Rattle.csdl.specs.Tables.{Run}
-use Rattle.csdl.specs.Model.{Model, text, present, recordAt}
-use Rattle.csdl.specs.Find.{structured, isAt}
+use Rattle.csdl.specs.Search.{firstFrom, tab, flat, all, ifFound}
+use Rattle.csdl.specs.Model.{Model, propertyText, present, recordAt}
+use Rattle.csdl.specs.Find.{structured, ancestorOrSelf}
 use Rattle.csdl.specs.Path.{Segment, Kind, segmentsOf, pathOf, startOf}
 use Rattle.csdl.specs.Path.Segment.{name, cast}
 use Rattle.csdl.specs.Path.Kind.{partner, key, dependent, principal, binding, target}
-use Rattle.csdl.specs.Instance.{Instance, instanceIn, itemBytes, handleBits}
+use Rattle.csdl.specs.Instance.{Instance, instanceIn, itemBytes, handleBytes}
 use Rattle.csdl.specs.Conforms.{isNull, instanceThen}
 use Rattle.csdl.specs.Image.{modelIn}
-use Rattle.csdl.specs.Verdict.{Answer, Stage, verdict, leaves}
+use Rattle.csdl.specs.Verdict.{Answer, verdict, leaves}
 use Rattle.csdl.specs.Verdict.Answer.{accepted}
 use Rattle.csdl.specs.Verdict.Stage.{whole}
 use Rattle.csdl.specs.declared.Record.{Record}
@@ -32,32 +31,34 @@ pub data Item : Type 0 where
   null : Origin → Item
   held : ℕ → ℕ → Item
 
--- The slot of a name in a node: 0 for none, else its number and 1.
+-- The slot of a name in a node: 0 for none, else its number plus 1.
 unfoldable pub slotNamed : Model → Instance → List ℕ → ℕ → ℕ
 slotNamed m i nm v =
-    firstFrom (λ s. same (text m (m .propertyName (i .slotProperty s))) nm) (i .nodeSlots v .first) (i .nodeSlots v .count)
+    firstFrom (λ s. same (propertyText m (i .slotProperty s)) nm) (i .nodeSlots v .first) (i .nodeSlots v .count)
 
 -- Item k, which stands in slot s.
 unfoldable pub itemAt : Instance → ℕ → ℕ → Item
 itemAt i s k = cond (isNull i k) (null (at-slot s)) (held (i .itemRef k) (i .itemHandle k))
 
+-- The slot is null.
+abbrev pub slotNull : Instance → ℕ → Bool
+slotNull i s = eqb (i .state s) 0
+
 -- What stands in a slot: null, the item, or the collection's items in order.
 unfoldable pub contents : Instance → ℕ → List Item
-contents i s = cond (eqb (i .state s) 0) (null (at-slot s) ∷ []) (tab (λ k. itemAt i s k) (i .slotItems s .first) (i .slotItems s .count))
+contents i s = cond (slotNull i s) (null (at-slot s) ∷ []) (tab (λ k. itemAt i s k) (i .slotItems s .first) (i .slotItems s .count))
 
--- The slot that a segment opens at an item, if it is a name and the item a node with a slot of that name: 0 for none, else its number and 1.
+-- The slot that a segment opens at an item, if it is a name and the item a node with a slot of that name: 0 for none, else its number plus 1.
 unfoldable pub opening : Model → Instance → Segment → Item → ℕ
 opening m i (name nm) (null o) = 0
 opening m i (name nm) (held r v) = cond (structured m r) (slotNamed m i nm v) 0
 opening m i (cast c) x = 0
 
 abbrev pub openedBy : ℕ → List ℕ
-openedBy zero = []
-openedBy (suc s) = s ∷ []
+openedBy found = ifFound [] (λ s. s ∷ []) found
 
 abbrev pub contentsBy : Instance → ℕ → List Item
-contentsBy i zero = []
-contentsBy i (suc s) = contents i s
+contentsBy i found = ifFound [] (λ s. contents i s) found
 
 -- What takes an item's place at a segment. A name replaces a node by what stands in its slot of that name; a cast keeps a node at its type,
 -- else puts null; null remains null. Nothing takes the place of an item at which the walk stops short.
@@ -65,7 +66,7 @@ unfoldable pub after : Model → Instance → Segment → Item → List Item
 after m i (name nm) (null o) = null o ∷ []
 after m i (name nm) (held r v) = contentsBy i (opening m i (name nm) (held r v))
 after m i (cast c) (null o) = null o ∷ []
-after m i (cast c) (held r v) = cond (structured m r) (cond (isAt m c r) (held r v) (null (at-cast c v)) ∷ []) []
+after m i (cast c) (held r v) = cond (structured m r) (cond (ancestorOrSelf m c r) (held r v) (null (at-cast c v)) ∷ []) []
 
 -- The walk does not stop short at the item: a name meets null or a node with such a slot, a cast meets null or a node.
 unfoldable pub passes : Model → Instance → Segment → Item → Bool
@@ -130,20 +131,20 @@ walk27 (chosen w r) = false
 
 -- Rule 28. 28a: the start node is not there. 28b: it is not at the start type.
 unfoldable pub walk28 : Model → Instance → ℕ → ℕ → Bool
-walk28 m i t v = not (ltb v (i .nodes)) || not (isAt m t (i .nodeType v))
+walk28 m i t v = not (ltb v (i .nodes)) || not (ancestorOrSelf m t (i .nodeType v))
 
 -- Rule 29: the result buffer has fewer bytes than an item for the start, each slot and each item take.
 unfoldable pub walk29 : Instance → List ℕ → Bool
 walk29 i buffer = ltb (length buffer) (itemBytes * (1 + i .slots + i .items))
 
 -- The bytes of an item: type reference, then the handle, high byte first; null is 255 with handle 0.
-unfoldable pub handleBytes : ℕ → ℕ → List ℕ
-handleBytes zero h = []
-handleBytes (suc n) h = h / 256 ^ n % 256 ∷ handleBytes n h
+unfoldable pub bytesOfNumber : ℕ → ℕ → List ℕ
+bytesOfNumber zero h = []
+bytesOfNumber (suc n) h = h / 256 ^ n % 256 ∷ bytesOfNumber n h
 
 unfoldable pub bytesOfItem : Item → List ℕ
-bytesOfItem (null o) = 255 ∷ handleBytes (handleBits / 8) 0
-bytesOfItem (held r h) = r ∷ handleBytes (handleBits / 8) h
+bytesOfItem (null o) = 255 ∷ bytesOfNumber handleBytes 0
+bytesOfItem (held r h) = r ∷ bytesOfNumber handleBytes h
 
 -- The results of a walk and the slots that it opened.
 abbrev pub walkPath : List ℕ → ℕ → ℕ → Chosen

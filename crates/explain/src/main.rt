@@ -1,51 +1,54 @@
-// Explains the mark of a model: of the image on standard input, or of each image that an argument names, under a line with its name; the
-// argument - is standard input.
+// Explains the mark of a model: of the image on standard input, or of the image in each file that an argument names; - is standard input.
+// For more than one argument each explanation stands under a line with its name. What cannot be read gets none.
+mod description;
+mod explanation;
+mod listing;
+mod paths;
+mod print;
+mod refusal;
+mod rulebook;
 
-fn explain_open(fd: i32) {
-    let mut image = [0u8; explanation::IMAGE_SIZE];
-    let n = io::read_full(fd, &mut image);
-    explanation::explain(&image[..n]);
-}
+use explanation::explain;
 
-fn explain_under(fd: i32, name: &[u8]) {
-    io::write_all(1, b"== ");
-    io::write_all(1, name);
-    io::write_all(1, b"\n");
-    explain_open(fd);
-    io::write_all(1, b"\n");
-}
-
-fn explain_named(name: &[u8]) {
-    if packed::same_bytes(name, b"-") {
-        explain_under(0, name);
-        return;
+fn explain_input() {
+    let mut image = [0u8; input::IMAGE_SIZE];
+    let read = input::read_image(libc::STDIN_FILENO, b"standard input", &mut image);
+    let n = read.size;
+    if read.whole {
+        explain(&image[..n]);
     }
-    let fd = os::open_read(name);
-    if fd < 0 {
-        os::fail(name);
-        return;
-    }
-    explain_under(fd, name);
-    libc::close(fd);
 }
 
-fn explain_argument(i: usize) {
+fn heading(name: &[u8]) -> bool {
+    print::written(b"== ") && print::written(name) && print::written(b"\n")
+}
+
+fn explain_argument(i: usize, several: bool) {
     let mut name = io::buffer();
-    let n = os::arg(i, &mut name);
-    if os::errno() != 0 {
-        os::fail(b"argument");
+    let mut image = [0u8; input::IMAGE_SIZE];
+    let read = input::read_argument(i, &mut name, &mut image);
+    if !read.whole {
         return;
     }
-    explain_named(&name[..n]);
+    let n = read.size;
+    if !several {
+        explain(&image[..n]);
+        return;
+    }
+    let k = read.name;
+    if heading(&name[..k]) {
+        explain(&image[..n]);
+        print::text(b"\n");
+    }
 }
 
 fn main() {
     let n = os::arg_count();
     if n < 2 {
-        explain_open(0);
+        explain_input();
         return;
     }
     for i in 1..n {
-        explain_argument(i);
+        explain_argument(i, 2 < n);
     }
 }

@@ -1,29 +1,34 @@
--- The index of the properties: filling it, and following a chain. Assumes nothing.
-use Prim.Native.Nat.{ℕ, suc, _+_, _-_, _≤_, _<_}
+-- The index of the properties: filling its chains, and following one. Assumes nothing.
+use Prim.Native.Nat.{ℕ, zero, suc, _+_, _-_, _≤_, _<_}
 use mathlib.Core.Path.{_≡_, refl, sym, ap, _∙_}
 use mathlib.Core.List.{List}
-use mathlib.Core.Logic.{⊎-elim}
 use mathlib.Core.Bool.{Bool, true, false}
-use native.Mathlib.Nat.{sub-self, eq-or-lt-of-le}
+use native.Mathlib.Nat.{sub-self, sub-zero}
 use native.Mathlib.Numerals.{add-one}
 use native.Mathlib.Omega.{arith}
 use lib.Dec.{eqb}
 use lib.ListN.{length, getD, set, replicate, length-set, length-replicate, getD-replicate}
 use lib.Seq.{getD-set-same, getD-set-other}
-use borrow.Author.Tests.{eq-eqb, ne-eqb, eqb-true, eqb-false}
+use borrow.Author.Tests.{eq-eqb, ne-eqb}
 use Rattle.packed.specs.Bytes.{same}
 use Rattle.packed.proofs.Laws.{same-sound}
 use Rattle.csdl.specs.Search.{firstFrom}
 use Rattle.csdl.specs.Tables.{propertyCount}
 use Rattle.csdl.proofs.Logic.{first-found, first-none}
-use Rattle.lookup.specs.Index.{bucket, nameOf, inBucket, chained, Indexed}
+use Rattle.name_classes.specs.Classes.{nameOf, Ranked}
+use Rattle.name_classes.proofs.Sorting.{even}
+use Rattle.name_classes.proofs.Ranks.{small, same-class, entry-first, ranked-kept}
+use Rattle.lookup.specs.Index.{namedFrom, Indexed}
 
-pub bucket-lt : (s : List ℕ) → bucket s < 256
-unfolding bucket
-bucket-lt s = omega arith
+first-same : (f g : ℕ → Bool) (i n : ℕ) → ((k : ℕ) → k < i + n → f k ≡ g k) → firstFrom f i n ≡ firstFrom g i n
+unfolding firstFrom
+first-same f g i zero e = refl
+first-same f g i (suc n) e =
+    let rest : firstFrom f (i + 1) n ≡ firstFrom g (i + 1) n = first-same f g (i + 1) n (λ k b. e k (omega arith)) in
+    rw (e i (omega arith), rest)
 
--- ---- filling, of n numbers in the buckets that `at` gives
-module _ (at : ℕ → ℕ) (n : ℕ) where
+-- ---- filling, of n numbers in the classes that `at` gives
+module _ (at : ℕ → ℕ) (n : ℕ) (old : List ℕ) where
   abbrev chain : ℕ → ℕ → ℕ
   chain b k = firstFrom (λ p. eqb (at p) b) k (n - k)
 
@@ -43,91 +48,116 @@ module _ (at : ℕ → ℕ) (n : ℕ) where
   chain-on b p h e = rw (one-more p h, ne-eqb (at p) b e)
 
   -- The entries when the numbers from p on are in.
-  pub record Filled (p : ℕ) (entries : List ℕ) : Type 0 where
-    pub size : length entries ≡ 768
-    pub first : (b : ℕ) → b < 256 → getD entries b 0 ≡ chain b p
-    pub next : (q : ℕ) → p ≤ q → q < n → getD entries (256 + q) 0 ≡ chain (at q) (q + 1)
+  pub record Filled (p : ℕ) (index later : List ℕ) : Type 0 where
+    pub size : length index ≡ 1793
+    pub places : length later ≡ 513
+    pub first : (b : ℕ) → b < 513 → getD later b 0 ≡ chain b p
+    pub next : (q : ℕ) → p ≤ q → q < n → getD index (1024 + q) 0 ≡ chain (at q) (q + 1)
+    pub kept : (i : ℕ) → i < 1024 → getD index i 0 ≡ getD old i 0
+    pub last : getD index 1536 0 ≡ getD old 1536 0
 
-  pub filled-start : Filled n (replicate 768 0)
-  filled-start = record {
-    size = length-replicate {A = ℕ} 768 0;
-    first = λ b h. getD-replicate {A = ℕ} 768 b 0 0 (omega arith) ∙ sym (chain-none b);
+  pub filled-start : length old ≡ 1793 → Filled n old (replicate 513 0)
+  filled-start s = record {
+    size = s;
+    places = length-replicate {A = ℕ} 513 0;
+    first = λ b h. getD-replicate {A = ℕ} 513 b 0 0 h ∙ sym (chain-none b);
     next = λ q h k. absurd (omega arith);
+    kept = λ i h. refl;
+    last = refl;
   }
 
-  module _ (p b : ℕ) (e : List ℕ) (small : n ≤ 512) (low : p < n) (here : b ≡ at p) (few : b < 256) (f : Filled (p + 1) e) where
-    pub filled-more : Filled p (set (set e (255 + (p + 1)) (getD e b 0)) b (p + 1))
-    filled-more = record {
-      size = length-set (set e (255 + (p + 1)) (getD e b 0)) b (p + 1) ∙ length-set e (255 + (p + 1)) (getD e b 0) ∙ f .size;
-      first = λ c h. heads c h (eqb c b) refl;
-      next = λ q h k. ⊎-elim (λ z. rw (← z) own) (λ l. later q l k) (eq-or-lt-of-le h);
-    }
-      where
-        heads : (c : ℕ) → c < 256 → (x : Bool) → eqb c b ≡ x → getD (set (set e (255 + (p + 1)) (getD e b 0)) b (p + 1)) c 0 ≡ chain c p
-        heads c h true x =
-            let z : c ≡ b = eqb-true c b x in
-            rw z (getD-set-same (set e (255 + (p + 1)) (getD e b 0)) b (p + 1) 0 (rw (length-set e (255 + (p + 1)) (getD e b 0), f .size) (omega arith)) ∙ add-one p ∙ sym (chain-here b p low (sym here)))
-        heads c h false x =
-            let z = eqb-false c b x in
-            getD-set-other (set e (255 + (p + 1)) (getD e b 0)) b c (p + 1) 0 z
-            ∙ getD-set-other e (255 + (p + 1)) c (getD e b 0) 0 (λ y. omega (arith, y, h))
-            ∙ f .first c h
-            ∙ sym (chain-on c p low (λ y. z (sym y ∙ sym here)))
+  module _ (p b : ℕ) (e l : List ℕ) (few : n ≤ 512) (low : p < n) (here : b ≡ at p) (small : b < 513) (f : Filled (p + 1) e l) where
+    filled-more : Filled p (set e (1024 + p) (getD l b 0)) (set l b (p + 1))
+    filled-more =
+        let v = getD l b 0 in
+        record {
+          size = length-set e (1024 + p) v ∙ f .size;
+          places = length-set l b (p + 1) ∙ f .places;
+          first = λ c h. even c b
+              (λ z. rw z (getD-set-same l b (p + 1) 0 (rw (f .places) small) ∙ add-one p ∙ sym (chain-here b p low (sym here))))
+              (λ z. getD-set-other l b c (p + 1) 0 z ∙ f .first c h ∙ sym (chain-on c p low (λ y. z (sym y ∙ sym here))));
+          next = λ q h k. even q p
+              (λ z. rw z (getD-set-same e (1024 + p) v 0 (rw (f .size) (omega arith)) ∙ f .first b small ∙ rw here))
+              (λ z. getD-set-other e (1024 + p) (1024 + q) v 0 (λ y. z (omega (arith, y))) ∙ f .next q (omega (arith, h, z)) k);
+          kept = λ i h. getD-set-other e (1024 + p) i v 0 (λ y. omega (arith, y, h)) ∙ f .kept i h;
+          last = getD-set-other e (1024 + p) 1536 v 0 (λ y. omega (arith, y, low, few)) ∙ f .last;
+        }
 
-        own : getD (set (set e (255 + (p + 1)) (getD e b 0)) b (p + 1)) (256 + p) 0 ≡ chain (at p) (p + 1)
-        own =
-            let g : 255 + (p + 1) ≡ 256 + p = omega arith in
-            getD-set-other (set e (255 + (p + 1)) (getD e b 0)) b (256 + p) (p + 1) 0 (λ y. omega (arith, y, few))
-            ∙ rw g (getD-set-same e (256 + p) (getD e b 0) 0 (rw (f .size) (omega arith)))
-            ∙ f .first b few
-            ∙ rw here
+  -- An entry past these changes nothing.
+  pub filled-past : (p : ℕ) (e l : List ℕ) (k v : ℕ) → n ≤ 512 → 1536 < k → Filled p e l → Filled p (set e k v) l
+  filled-past p e l k v few h f = record {
+    size = length-set e k v ∙ f .size;
+    places = f .places;
+    first = f .first;
+    next = λ q a b. getD-set-other e k (1024 + q) v 0 (λ y. omega (arith, y, b, few, h)) ∙ f .next q a b;
+    kept = λ i a. getD-set-other e k i v 0 (λ y. omega (arith, y, a, h)) ∙ f .kept i a;
+    last = getD-set-other e k 1536 v 0 (λ y. omega (arith, y, h)) ∙ f .last;
+  }
 
-        later : (q : ℕ) → p < q → q < n → getD (set (set e (255 + (p + 1)) (getD e b 0)) b (p + 1)) (256 + q) 0 ≡ chain (at q) (q + 1)
-        later q l k =
-            getD-set-other (set e (255 + (p + 1)) (getD e b 0)) b (256 + q) (p + 1) 0 (λ y. omega (arith, y, few))
-            ∙ getD-set-other e (255 + (p + 1)) (256 + q) (getD e b 0) 0 (λ y. omega (arith, y, l))
-            ∙ f .next q (omega arith) k
-
-  pub filled-step : (q b : ℕ) (e : List ℕ) → n ≤ 512 → 0 < q → q ≤ n → b ≡ at (q - 1) → b < 256 → Filled q e → Filled (q - 1) (set (set e (255 + q) (getD e b 0)) b q)
-  filled-step q b e small some most here few f =
+  pub filled-step : (q b : ℕ) (e l : List ℕ) → n ≤ 512 → 0 < q → q ≤ n → b ≡ at (q - 1) → b < 513 → Filled q e l → Filled (q - 1) (set e (1023 + q) (getD l b 0)) (set l b q)
+  filled-step q b e l few some most here small f =
       let h : q ≡ q - 1 + 1 = omega arith in
-      on (q - 1) h (filled-more (q - 1) b e small (omega arith) here few (rw (← h) f))
+      on (q - 1) h (filled-more (q - 1) b e l few (omega arith) here small (rw (← h) f))
     where
-      on : (p : ℕ) → q ≡ p + 1 → Filled p (set (set e (255 + (p + 1)) (getD e b 0)) b (p + 1)) → Filled p (set (set e (255 + q) (getD e b 0)) b q)
-      on p h f = rw h f
+      on : (p : ℕ) → q ≡ p + 1 → Filled p (set e (1024 + p) (getD l b 0)) (set l b (p + 1)) → Filled p (set e (1023 + q) (getD l b 0)) (set l b q)
+      on p h f = let g : 1023 + q ≡ 1024 + p = omega arith in rw (g, h) f
 
-pub indexed : (properties names entries : List ℕ) → Filled (λ p. bucket (nameOf properties names p)) (propertyCount properties) 0 entries → Indexed properties names entries
-indexed properties names entries f = record { size = f .size; first = f .first; next = λ p h. f .next p (omega arith) h }
+pub indexed : (properties names old index later : List ℕ) → propertyCount properties ≤ 512 → Ranked (λ p. nameOf properties names p) (propertyCount properties) (getD old 1536 0) old
+    → Filled (λ p. getD old (512 + p) 0) (propertyCount properties) old 0 index later → Indexed properties names index
+indexed properties names old index later few r f = record {
+  ranked = ranked-kept (λ p. nameOf properties names p) (propertyCount properties) old index few (f .size) (f .last) (f .kept) r;
+  next = λ p h. f .next p (omega arith) h
+      ∙ first-same _ _ (p + 1) (propertyCount properties - (p + 1)) (λ k b. same-class (λ p. nameOf properties names p) (propertyCount properties) (getD old 1536 0) old r k p (omega (arith, b, h)) h);
+}
+
+-- The entry of a property, as the code reads it.
+pub entry-small : (properties names old : List ℕ) → propertyCount properties ≤ 512 → Ranked (λ p. nameOf properties names p) (propertyCount properties) (getD old 1536 0) old
+    → (p : ℕ) → p < propertyCount properties → getD old (512 + p) 0 < 513
+entry-small properties names old few r p h = omega (arith, small (λ p. nameOf properties names p) (propertyCount properties) (getD old 1536 0) old r p h)
+
+pub entry-read : (properties names old index later : List ℕ) (q : ℕ) → propertyCount properties ≤ 512 → 0 < q → q ≤ propertyCount properties
+    → Ranked (λ p. nameOf properties names p) (propertyCount properties) (getD old 1536 0) old
+    → Filled (λ p. getD old (512 + p) 0) (propertyCount properties) old q index later
+    → (getD index (511 + q) 0 ≡ getD old (512 + (q - 1)) 0) × (getD index (511 + q) 0 < 513)
+entry-read properties names old index later q few some most r f =
+    let e : getD index (511 + q) 0 ≡ getD old (512 + (q - 1)) 0 = f .kept (511 + q) (omega arith) ∙ same-entry in
+    (e, rw e (entry-small properties names old few r (q - 1) (omega arith)))
+  where
+    same-entry : getD old (511 + q) 0 ≡ getD old (512 + (q - 1)) 0
+    same-entry = let g : 511 + q ≡ 512 + (q - 1) = omega arith in rw g
 
 -- ---- following the chain of a name
 module _ (properties names name : List ℕ) where
-  not-named : (p : ℕ) → inBucket properties names (bucket name) p ≡ false → same (nameOf properties names p) name ≡ false
-  not-named p h = go (same (nameOf properties names p) name) refl
-    where
-      go : (b : Bool) → same (nameOf properties names p) name ≡ b → same (nameOf properties names p) name ≡ false
-      go false q = q
-      go true q = absurd (eqb-false _ _ h (ap (λ x. bucket x) (same-sound _ _ q)))
-
-  -- Where the chain goes on from number k: at p, and no number between has the name.
+  -- Where the chain goes on from number k: at p, which has the name, and no number between has it.
   pub record Reached (k p : ℕ) : Type 0 where
     pub from : k ≤ p
     pub below : p < propertyCount properties
-    pub bucketed : bucket (nameOf properties names p) ≡ bucket name
+    pub named : same (nameOf properties names p) name ≡ true
     pub skips : (j : ℕ) → k ≤ j → j < p → same (nameOf properties names j) name ≡ false
 
-  module _ (k a : ℕ) (most : k ≤ propertyCount properties) (e : a ≡ chained properties names (bucket name) k) where
+  module _ (k a : ℕ) (most : k ≤ propertyCount properties) (e : a ≡ namedFrom properties names name k) where
     pub reached : (p : ℕ) → a ≡ suc p → Reached k p
     reached p h =
-        let w = first-found (λ q. inBucket properties names (bucket name) q) k (propertyCount properties - k) p (sym e ∙ h) in
-        record {
-          from = w .0;
-          below = omega (arith, w .1, most);
-          bucketed = eqb-true _ _ (w .2);
-          skips = λ j l m. not-named j (w .3 j l m);
-        }
+        let w = first-found (λ q. same (nameOf properties names q) name) k (propertyCount properties - k) p (sym e ∙ h) in
+        record { from = w .0; below = omega (arith, w .1, most); named = w .2; skips = w .3 }
 
     pub ended : a ≡ 0 → (j : ℕ) → k ≤ j → j < propertyCount properties → same (nameOf properties names j) name ≡ false
-    ended h j l m = not-named j (first-none (λ q. inBucket properties names (bucket name) q) k (propertyCount properties - k) (sym e ∙ h) j l (omega (arith, m, most)))
+    ended h j l m = first-none (λ q. same (nameOf properties names q) name) k (propertyCount properties - k) (sym e ∙ h) j l (omega (arith, m, most))
 
-  pub goes-on : (index : List ℕ) → Indexed properties names index → (k p : ℕ) → Reached k p → (a : ℕ) → a ≡ getD index (256 + p) 0 → a ≡ chained properties names (bucket name) (p + 1)
-  goes-on index x k p r a e = e ∙ x .next p (r .below) ∙ rw (r .bucketed)
+  pub goes-on : (index : List ℕ) → Indexed properties names index → (k p : ℕ) → Reached k p → (a : ℕ) → a ≡ getD index (1024 + p) 0 → a ≡ namedFrom properties names name (p + 1)
+  goes-on index x k p r a e = e ∙ x .next p (r .below) ∙ ap (λ (s : List ℕ). namedFrom properties names s (p + 1)) (same-sound _ _ (r .named))
+
+-- The chain of the name of p starts at the entry of p.
+pub alike-start : (properties names index : List ℕ) → Indexed properties names index → (p : ℕ) → p < propertyCount properties → (a : ℕ) → a ≡ getD index (512 + p) 0
+    → a ≡ namedFrom properties names (nameOf properties names p) 0
+alike-start properties names index x p h a e =
+    rw (sub-zero (propertyCount properties)) (e ∙ entry-first (λ p. nameOf properties names p) (propertyCount properties) (getD index 1536 0) index (x .ranked) p h)
+
+-- A property that has the name leads to the first.
+pub guess-start : (properties names index name : List ℕ) → Indexed properties names index → (p : ℕ) → p < propertyCount properties → (b : Bool) → b ≡ same (nameOf properties names p) name → b ≡ true
+    → (a : ℕ) → a ≡ getD index (512 + p) 0 → a ≡ namedFrom properties names name 0
+guess-start properties names index name x p h b e t a q =
+    alike-start properties names index x p h a q ∙ ap (λ (s : List ℕ). namedFrom properties names s 0) (same-sound _ _ (sym e ∙ t))
+
+pub guess-most : (properties names index : List ℕ) → propertyCount properties ≤ 512 → Indexed properties names index → (p : ℕ) → p < propertyCount properties → getD index (512 + p) 0 ≤ 512
+guess-most properties names index few x p h = omega (arith, entry-small properties names index few (x .ranked) p h)

@@ -3,3 +3,10 @@ pub mod Near
 pub mod Chain
 pub mod Looking
 pub mod Frame
+pub mod Climbing
+pub mod Past
+pub mod Found
+pub mod SetLaws
+pub mod Tables
+pub mod AncestorSets
+pub mod Owners

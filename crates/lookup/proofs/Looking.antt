@@ -1,4 +1,4 @@
--- The lookup of a name along the chain of its bucket. Assumes nothing.
+-- The lookup of a name along the chain of the properties that have it. Assumes nothing.
 use Prim.Native.Nat.{ℕ, zero, suc, _+_, _-_, _≤_, _<_}
 use mathlib.Core.Path.{_≡_, refl, sym, subst, _∙_}
 use mathlib.Core.List.{List}
@@ -13,10 +13,11 @@ use Rattle.packed.specs.Bytes.{same}
 use Rattle.csdl.specs.Search.{anyFrom}
 use Rattle.csdl.specs.Tables.{propertyCount, propertyOwner}
 use Rattle.csdl.proofs.Logic.{none-any}
+use Rattle.name_classes.specs.Classes.{nameOf}
 use Rattle.lookup.specs.Near.{leftAt, only}
-use Rattle.lookup.specs.Index.{bucket, nameOf, chained, Indexed}
-use Rattle.lookup.proofs.Near.{Near, near-start, near-other, near-nearer, near-farther, near-reach}
-use Rattle.lookup.proofs.Chain.{bucket-lt, Reached, reached, ended, goes-on}
+use Rattle.lookup.specs.Index.{namedFrom, Indexed}
+use Rattle.lookup.proofs.Near.{Near, near-start, near-nearer, near-farther, near-reach}
+use Rattle.lookup.proofs.Chain.{Reached, reached, ended, goes-on}
 
 -- How many numbers below n are left from the one that a chain is at.
 abbrev pub remaining : ℕ → ℕ → ℕ
@@ -36,13 +37,13 @@ remaining-less n p zero h f = omega arith
 remaining-less n p (suc q) h f = let w = f q refl in omega (arith, w .0, w .1)
 
 module _ (properties names name index : List ℕ) (x : Indexed properties names index) where
-  -- The chain of the name is at a, the first of its bucket from number `upto` on.
+  -- The chain of the name is at a, the first that has it from number `upto` on.
   pub record On (a upto : ℕ) : Type 0 where
     pub most : upto ≤ propertyCount properties
-    pub chain : a ≡ chained properties names (bucket name) upto
+    pub chain : a ≡ namedFrom properties names name upto
 
-  pub on-start : (a : ℕ) → a ≡ getD index (bucket name) 0 → On a 0
-  on-start a e = record { most = omega arith; chain = e ∙ x .first (bucket name) (bucket-lt name) }
+  pub on-start : (a : ℕ) → a ≡ namedFrom properties names name 0 → On a 0
+  on-start a e = record { most = omega arith; chain = e }
 
   module _ (a upto : ℕ) (o : On a upto) where
     pub on-ended : a ≡ 0 → (j : ℕ) → upto ≤ j → j < propertyCount properties → same (nameOf properties names j) name ≡ false
@@ -58,7 +59,7 @@ module _ (properties names name index : List ℕ) (x : Indexed properties names 
       pub on-below : a - 1 < propertyCount properties
       on-below = on-reach .below
 
-      module _ (next : ℕ) (e : next ≡ getD index (256 + (a - 1)) 0) where
+      module _ (next : ℕ) (e : next ≡ getD index (1024 + (a - 1)) 0) where
         pub on-next : On next (a - 1 + 1)
         on-next = record {
           most = omega (arith, on-below);
@@ -97,18 +98,17 @@ module _ (properties names name index : List ℕ) (x : Indexed properties names 
             let r = on-reach a (l .upto) (l .on) some in
             near-reach (λ q. propertyOwner properties q) (λ q. same (nameOf properties names q) name) base all t (l .upto) (a - 1) found near (r .from) (l .nearest) (r .skips)
 
-        module _ (next : ℕ) (e : next ≡ getD index (256 + (a - 1)) 0) (b : Bool) (q : b ≡ same (nameOf properties names (a - 1)) name) where
-          pub looking-other : b ≡ false → Looking next found near
-          looking-other h = record { upto = a - 1 + 1; on = on-next a (l .upto) (l .on) some next e; nearest = near-other _ _ base all t (a - 1) found near at-here b q h }
+        module _ (next : ℕ) (e : next ≡ getD index (1024 + (a - 1)) 0) (left : ℕ) (g : left ≡ leftAt (only (propertyOwner properties (a - 1))) base all t) where
+          named : true ≡ same (nameOf properties names (a - 1)) name
+          named = sym (on-reach a (l .upto) (l .on) some .named)
 
-          module _ (h : b ≡ true) (left : ℕ) (g : left ≡ leftAt (only (propertyOwner properties (a - 1))) base all t) where
-            pub looking-nearer : near < left → Looking next a left
-            looking-nearer i =
-                let s : a - 1 + 1 ≡ a = omega arith in
-                subst (λ (k : ℕ). Looking next k left) s record { upto = a - 1 + 1; on = on-next a (l .upto) (l .on) some next e; nearest = near-nearer _ _ base all t (a - 1) found near at-here b left q h g i }
+          pub looking-nearer : near < left → Looking next a left
+          looking-nearer i =
+              let s : a - 1 + 1 ≡ a = omega arith in
+              subst (λ (k : ℕ). Looking next k left) s record { upto = a - 1 + 1; on = on-next a (l .upto) (l .on) some next e; nearest = near-nearer _ _ base all t (a - 1) found near at-here true left named refl g i }
 
-            pub looking-farther : left ≤ near → Looking next found near
-            looking-farther i = record { upto = a - 1 + 1; on = on-next a (l .upto) (l .on) some next e; nearest = near-farther _ _ base all t (a - 1) found near at-here b left q h g i }
+          pub looking-farther : left ≤ near → Looking next found near
+          looking-farther i = record { upto = a - 1 + 1; on = on-next a (l .upto) (l .on) some next e; nearest = near-farther _ _ base all t (a - 1) found near at-here true left named refl g i }
 
   -- ---- a search among those that have the name: those before `upto` do not pass
   module _ (test : ℕ → Bool) (named : (q : ℕ) → same (nameOf properties names q) name ≡ false → test q ≡ false) where
@@ -126,7 +126,7 @@ module _ (properties names name index : List ℕ) (x : Indexed properties names 
           let r = on-reach a (s .upto) (s .on) some in
           split q (s .upto) (λ l. s .none q l) (λ g. named q (r .skips q g h))
 
-      pub searched-next : (some : 0 < a) (next : ℕ) (e : next ≡ getD index (256 + (a - 1)) 0) → test (a - 1) ≡ false → Searched next
+      pub searched-next : (some : 0 < a) (next : ℕ) (e : next ≡ getD index (1024 + (a - 1)) 0) → test (a - 1) ≡ false → Searched next
       searched-next some next e f = record {
         upto = a - 1 + 1;
         on = on-next a (s .upto) (s .on) some next e;

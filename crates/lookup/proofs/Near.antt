@@ -1,14 +1,15 @@
 -- The nearest declaration, found in one pass over the declarations. Assumes nothing.
 use Prim.Native.Nat.{ℕ, zero, suc, _+_, _-_, _≤_, _<_}
 use mathlib.Core.Path.{_≡_, refl, sym, _∙_}
-use mathlib.Core.Bool.{Bool, true, false, cond, _&&_}
+use mathlib.Core.Bool.{Bool, true, false, cond, _&&_, _||_}
 use native.Mathlib.Numerals.{add-one}
-use native.Mathlib.Nat.{add-zero, zero-add}
+use native.Mathlib.Nat.{add-zero, zero-add, not-suc-le-zero}
 use native.Mathlib.Omega.{arith}
-use lib.Dec.{eqb}
-use borrow.Author.Tests.{eq-eqb, ne-eqb}
+use lib.Dec.{eqb, ltb}
+use borrow.Author.Tests.{eq-eqb, ne-eqb, eqb-true, eqb-false, lt-ltb}
 use Rattle.csdl.specs.Search.{firstFrom, orElse, mark}
-use Rattle.csdl.specs.Climb.{nearest}
+use Rattle.csdl.specs.Climb.{climb, nearest}
+use Rattle.lookup.specs.AncestorSets.{meets}
 use Rattle.lookup.proofs.Climb.{less-one}
 use Rattle.lookup.specs.Near.{leftOr, leftAt, only}
 
@@ -69,6 +70,40 @@ module _ (next : ℕ → ℕ) where
       let i = no-nearest f e l (next t - 1) in
       (rw (e t, i .0) (zeros (eqb (next t) 0)), rw (e t, i .1) (zeros (eqb (next t) 0)))
 
+-- ---- a climb that meets u
+or-right : (b : Bool) → b || true ≡ true
+or-right true = refl
+or-right false = refl
+
+flipped : (x y : ℕ) → eqb x y ≡ eqb y x
+flipped x y = go (eqb x y) refl
+  where
+    go : (b : Bool) → eqb x y ≡ b → eqb x y ≡ eqb y x
+    go true e = e ∙ sym (eq-eqb y x (sym (eqb-true x y e)))
+    go false e = e ∙ sym (ne-eqb y x (λ q. eqb-false x y e (sym q)))
+
+meets-step : (here top up : Bool) (above : Bool) (l left : ℕ) → ltb 0 left ≡ above || up → ltb 0 (leftOr (mark here) (suc l) (cond top 0 left)) ≡ cond top false (cond up true above) || here
+meets-step true top up above l left e = lt-ltb 0 (suc l) (omega arith) ∙ sym (or-right (cond top false (cond up true above)))
+meets-step false true up above l left e = refl
+meets-step false false true above l left e = e ∙ or-right above
+meets-step false false false true l left e = e
+meets-step false false false false l left e = e
+
+module _ (next : ℕ → ℕ) (u : ℕ) where
+  meets-more : (l t : ℕ) → ltb 0 (leftAt (only u) next (suc l) t) ≡ climb next l u t || eqb u t
+  unfolding leftAt climb
+  meets-more zero t = none (eqb u t) (eqb (next t) 0)
+    where
+      none : (here top : Bool) → ltb 0 (leftOr (mark here) 1 (cond top 0 0)) ≡ false || here
+      none true top = refl
+      none false true = refl
+      none false false = refl
+  meets-more (suc l) t = meets-step (eqb u t) (eqb (next t) 0) (eqb (next t - 1) u) (climb next l u (next t - 1)) (suc l) _ (rw (flipped (next t - 1) u) (meets-more l (next t - 1)))
+
+  pub meets-left : (n t : ℕ) → 0 < n → ltb 0 (leftAt (only u) next n t) ≡ meets next n t u
+  meets-left zero t h = absurd (not-suc-le-zero h)
+  meets-left (suc l) t h = let e : suc l - 1 ≡ l = omega arith in rw (e, flipped t u) (meets-more l t)
+
 -- ---- one step of the climb to u, as the code takes it: b is what `next` gives at t
 module _ (next : ℕ → ℕ) (u t : ℕ) where
   pub left-out : (left : ℕ) → left ≡ 0 → 0 ≡ leftAt (only u) next left t
@@ -124,7 +159,7 @@ module _ (owner : ℕ → ℕ) (named : ℕ → Bool) where
   declared-more : (n u : ℕ) → declared (n + 1) u ≡ orElse (declared n u) (cond (eqb (owner n) u && named n) (suc n) 0)
   declared-more n u = rw (add-one n, first-more (λ p. eqb (owner p) u && named p) 0 n, zero-add n)
 
-  -- The nearest of the first p declarations on the climb from t over `all` numbers: its number and 1, and how many numbers are left at its owner.
+  -- The nearest of the first p declarations on the climb from t over `all` numbers: its number plus 1, and how many numbers are left at its owner.
   pub record Near (next : ℕ → ℕ) (all t p found near : ℕ) : Type 0 where
     pub most : found ≤ p
     pub is : found ≡ nearest (declared p) next all t

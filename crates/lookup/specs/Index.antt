@@ -1,36 +1,18 @@
--- An index of the properties by name: 256 buckets, each a chain of properties in the order of their numbers.
-use Prim.Native.Nat.{ℕ, zero, suc, _+_, _-_, _*_, _%_, _<_}
+-- An index of the properties by name.
+use Prim.Native.Nat.{ℕ, _+_, _-_, _<_}
 use mathlib.Core.Path.{_≡_}
 use mathlib.Core.List.{List}
-use mathlib.Core.Bool.{Bool, cond}
-use lib.Dec.{eqb, leb}
-use lib.ListN.{length, getD}
-use Rattle.packed.specs.Bytes.{part}
+use lib.ListN.{getD}
+use Rattle.packed.specs.Bytes.{same}
 use Rattle.csdl.specs.Search.{firstFrom}
-use Rattle.csdl.specs.Tables.{propertyCount, propertyName}
+use Rattle.csdl.specs.Tables.{propertyCount}
+use Rattle.name_classes.specs.Classes.{nameOf, Ranked}
 
--- Byte k from the end, 0 where there is none.
-abbrev pub fromEnd : List ℕ → ℕ → ℕ
-fromEnd s k = cond (leb (length s) k) 0 (getD s (length s - (k + 1)) 0)
+-- The first property from number k on that has the name: 0 for none, else its number plus 1.
+abbrev pub namedFrom : List ℕ → List ℕ → List ℕ → ℕ → ℕ
+namedFrom properties names name k = firstFrom (λ p. same (nameOf properties names p) name) k (propertyCount properties - k)
 
--- The bucket of a name, made of its first byte and its last three. Any function of the bytes would do.
-unfoldable pub bucket : List ℕ → ℕ
-bucket s = (37 * getD s 0 0 + 100 * fromEnd s 2 + 10 * fromEnd s 1 + fromEnd s 0) % 256
-
--- The name of property p.
-abbrev pub nameOf : List ℕ → List ℕ → ℕ → List ℕ
-nameOf properties names p = part names (propertyName properties p .start) (propertyName properties p .size)
-
--- Property p is in bucket b.
-abbrev pub inBucket : List ℕ → List ℕ → ℕ → ℕ → Bool
-inBucket properties names b p = eqb (bucket (nameOf properties names p)) b
-
--- The first property of the bucket from number k on: 0 for none, else its number and 1.
-abbrev pub chained : List ℕ → List ℕ → ℕ → ℕ → ℕ
-chained properties names b k = firstFrom (λ p. inBucket properties names b p) k (propertyCount properties - k)
-
--- Entry b has the first property of bucket b, entry 256 + p the next of the bucket of p.
+-- The first property of each name in the order of the names, for each property the first that has its name, and the next.
 pub record Indexed (properties names index : List ℕ) : Type 0 where
-  pub size : length index ≡ 768
-  pub first : (b : ℕ) → b < 256 → getD index b 0 ≡ chained properties names b 0
-  pub next : (p : ℕ) → p < propertyCount properties → getD index (256 + p) 0 ≡ chained properties names (bucket (nameOf properties names p)) (p + 1)
+  pub ranked : Ranked (λ p. nameOf properties names p) (propertyCount properties) (getD index 1536 0) index
+  pub next : (p : ℕ) → p < propertyCount properties → getD index (1024 + p) 0 ≡ namedFrom properties names (nameOf properties names p) (p + 1)

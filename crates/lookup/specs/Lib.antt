@@ -1,2 +1,5 @@
 pub mod Near
 pub mod Index
+pub mod Nearness
+pub mod Sets
+pub mod AncestorSets

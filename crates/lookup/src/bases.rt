@@ -1,14 +1,13 @@
 // The types above a type: its base, that base's base, and so on.
 ghost use mathlib.Core.Path.{_≡_};
 ghost use mathlib.Core.List.{[]};
-ghost use Prim.Native.Nat.{_≤_, _<_};
-ghost use lib.ListN.{length};
 ghost use Rattle.csdl.specs.Tables.{typeBase};
 ghost use Rattle.csdl.specs.Climb as climb;
 ghost use Rattle.csdl.specs.Model.{modelOf};
 ghost use Rattle.csdl.specs.Find as find;
-use records::types::type_base;
-use records::types::type_count;
+ghost use Rattle.model_image.specs.Limits.{FewTypes};
+use model_image::types::type_base;
+use model_image::types::type_count;
 
 // Whether a stands above t, within `left` steps.
 fn above(types: &[u8], a: u16, t: u16, left: u16) -> bool
@@ -29,16 +28,16 @@ fn above(types: &[u8], a: u16, t: u16, left: u16) -> bool
 
 // Whether a is an ancestor of t.
 pub fn ancestor(types: &[u8], a: u16, t: u16) -> bool
-    requires { ⌜ length (now types) ≤ 384 ⌝ }
+    requires { ⌜ FewTypes (now types) ⌝ }
     ensures { λ r. ⌜ r ≡ find.ancestor (modelOf [] (now (types .entry)) [] [] [] [] [] [] []) a t ⌝ }
 {
     above(types, a, t, type_count(types))
 }
 
 // Whether t is a or derives from it.
-pub fn is_at(types: &[u8], a: u16, t: u16) -> bool
-    requires { ⌜ length (now types) ≤ 384 ⌝ }
-    ensures { λ r. ⌜ r ≡ find.isAt (modelOf [] (now (types .entry)) [] [] [] [] [] [] []) a t ⌝ }
+pub fn ancestor_or_self(types: &[u8], a: u16, t: u16) -> bool
+    requires { ⌜ FewTypes (now types) ⌝ }
+    ensures { λ r. ⌜ r ≡ find.ancestorOrSelf (modelOf [] (now (types .entry)) [] [] [] [] [] [] []) a t ⌝ }
 {
     if t == a {
         return true;
@@ -62,7 +61,7 @@ fn topmost(types: &[u8], t: u16, left: u16) -> u16
 
 // The topmost type above t, or t itself.
 pub fn top(types: &[u8], t: u16) -> u16
-    requires { ⌜ length (now types) ≤ 384 ⌝ }
+    requires { ⌜ FewTypes (now types) ⌝ }
     ensures { λ r. ⌜ r ≡ find.top (modelOf [] (now (types .entry)) [] [] [] [] [] [] []) t ⌝ }
 {
     topmost(types, t, type_count(types))

@@ -1,16 +1,15 @@
 // Kinds of a type reference: a type number, or 64 + primitive code.
 ghost use mathlib.Core.Path.{_≡_};
 ghost use mathlib.Core.List.{[]};
-ghost use Prim.Native.Nat.{_≤_};
-ghost use lib.ListN.{length};
 ghost use Rattle.csdl.specs.Model.{modelOf};
 ghost use Rattle.csdl.specs.Find as find;
-use records::types::type_count;
-use records::types::type_kind;
+ghost use Rattle.model_image.specs.Limits.{FewTypes};
+use model_image::types::type_count;
+use model_image::types::type_kind;
 
 // Whether x is a type of the kind.
 pub fn of_kind(types: &[u8], kind: u16, x: u16) -> bool
-    requires { ⌜ length (now types) ≤ 384 ⌝ }
+    requires { ⌜ FewTypes (now types) ⌝ }
     ensures { λ r. ⌜ r ≡ find.ofKind (modelOf [] (now (types .entry)) [] [] [] [] [] [] []) kind x ⌝ }
 {
     (x < type_count(types)) & (type_kind(types, x) == kind)
@@ -18,7 +17,7 @@ pub fn of_kind(types: &[u8], kind: u16, x: u16) -> bool
 
 // Whether x is an entity or complex type.
 pub fn structured(types: &[u8], x: u16) -> bool
-    requires { ⌜ length (now types) ≤ 384 ⌝ }
+    requires { ⌜ FewTypes (now types) ⌝ }
     ensures { λ r. ⌜ r ≡ find.structured (modelOf [] (now (types .entry)) [] [] [] [] [] [] []) x ⌝ }
 {
     (x < type_count(types)) & (type_kind(types, x) <= 1)

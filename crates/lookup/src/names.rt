@@ -2,50 +2,52 @@
 ghost use mathlib.Core.Path.{_≡_};
 ghost use mathlib.Core.List.{[]};
 ghost use Prim.Native.Nat.{_≤_, _<_};
-ghost use lib.ListN.{length};
-ghost use Rattle.packed.specs.Bytes.{same, part};
-ghost use Rattle.csdl.specs.Tables.{typeBase, propertyName};
 ghost use Rattle.csdl.specs.Model.{modelOf};
 ghost use Rattle.csdl.specs.Find as find;
-ghost use Rattle.lookup.specs.Near.{leftAt, only};
-ghost use Rattle.lookup.specs.Index.{Indexed};
-use crate::index::first_in_bucket;
-use crate::index::next_in_bucket;
-use crate::texts::property_text;
-use packed::same_bytes;
-use records::properties::property_owner;
-use records::types::type_base;
-use records::types::type_count;
+ghost use Rattle.lookup.specs.AncestorSets.{setsOf};
+ghost use Rattle.lookup.specs.Index.{namedFrom, Indexed};
+ghost use Rattle.model_image.specs.Limits.{FewProperties, FewTypes};
+use crate::index::first_named;
+use crate::index::next_alike;
+use crate::nearness::nearness_of;
+use crate::type_sets::in_set;
+use model_image::properties::property_owner;
+use model_image::types::type_count;
 
-// Whether property p has the name.
-fn named(properties: &[u8], names: &[u8], name: &[u8], p: u16) -> bool
-    ensures { λ r. ⌜ r ≡ same (part (now (names .entry)) (propertyName (now (properties .entry)) p .start) (propertyName (now (properties .entry)) p .size)) (now (name .entry)) ⌝ }
+// What a name that may have several properties means at t: of these the one whose owner the climb from t meets first, with most types left. How
+// near each type is to t is found once. `first` is the first property of the name.
+fn find_among(
+    types: &[u8],
+    properties: &[u8],
+    names: &[u8],
+    index: &[u16],
+    name: &[u8],
+    t: u16,
+    first: u16,
+) -> u16
+    requires { ⌜ FewTypes (now types) × FewProperties (now properties) × (t < 128) × (first ≡ namedFrom (now properties) (now names) (now name) 0) × Indexed (now properties) (now names) (now index) ⌝ }
+    ensures { λ r. ⌜ (r ≡ find.find (modelOf [] (now (types .entry)) (now (properties .entry)) [] [] [] [] [] (now (names .entry))) (now (name .entry)) t) × (r ≤ 512) ⌝ }
 {
-    same_bytes(property_text(properties, names, p), name)
-}
-
-// How many of `all` types are left where the climb from t meets u: 0 where it does not.
-fn left_at(types: &[u8], u: u16, t: u16, all: u16) -> u16
-    ensures { λ r. ⌜ r ≡ leftAt (only u) (λ v. typeBase (now (types .entry)) v) all t ⌝ }
-{
-    let mut at = t;
-    let mut left = all;
-    while left > 0 {
-        if u == at {
-            return left;
-        }
-        let base = type_base(types, at);
-        if base == 0 {
-            return 0;
-        }
-        at = base - 1;
-        left -= 1;
+    if first == 0 {
+        return 0;
     }
-    0
+    let nearness = nearness_of(types, t);
+    let mut found: u16 = 0;
+    let mut near: u16 = 0;
+    let mut at = first;
+    while at > 0 {
+        let p = at - 1;
+        let left = nearness[property_owner(properties, p) as usize];
+        if near < left {
+            near = left;
+            found = at;
+        }
+        at = next_alike(index, p);
+    }
+    found
 }
 
-// What the name means at t: 0 for none, else a property's number and 1. Of the properties that have the name, the one whose owner the climb
-// from t meets first, with most types left.
+// What the name means at t: 0 for none, else a property's number plus 1.
 pub fn find(
     types: &[u8],
     properties: &[u8],
@@ -54,46 +56,47 @@ pub fn find(
     name: &[u8],
     t: u16,
 ) -> u16
-    requires { ⌜ (length (now types) ≤ 384) × (length (now properties) ≤ 3584) × Indexed (now properties) (now names) (now index) ⌝ }
+    requires { ⌜ FewTypes (now types) × FewProperties (now properties) × Indexed (now properties) (now names) (now index) ⌝ }
     ensures { λ r. ⌜ (r ≡ find.find (modelOf [] (now (types .entry)) (now (properties .entry)) [] [] [] [] [] (now (names .entry))) (now (name .entry)) t) × (r ≤ 512) ⌝ }
 {
-    let all = type_count(types);
-    let mut found: u16 = 0;
-    let mut near: u16 = 0;
-    let mut at = first_in_bucket(index, name);
-    while at > 0 {
-        let p = at - 1;
-        if named(properties, names, name, p) {
-            let left = left_at(types, property_owner(properties, p), t, all);
-            if near < left {
-                near = left;
-                found = at;
-            }
-        }
-        at = next_in_bucket(index, p);
+    if t >= 64 {
+        return 0;
     }
-    found
+    let first = first_named(properties, names, index, name);
+    find_among(types, properties, names, index, name, t, first)
 }
 
-// Whether p is what its own name means at t.
-pub fn is_name_of(
+// The same at a type reference that may be a cast's number, where the ancestors of all types are at hand: past every table nothing is found, and a
+// name that one property has is asked for by one bit.
+pub fn find_on(
     types: &[u8],
     properties: &[u8],
     names: &[u8],
     index: &[u16],
-    t: u16,
-    p: u16,
-) -> bool
-    requires { ⌜ (length (now types) ≤ 384) × (length (now properties) ≤ 3584) × Indexed (now properties) (now names) (now index) ⌝ }
-    ensures { λ r. ⌜ r ≡ find.isNameOf (modelOf [] (now (types .entry)) (now (properties .entry)) [] [] [] [] [] (now (names .entry))) t p ⌝ }
+    ancestors: &[u64],
+    name: &[u8],
+    t: u32,
+) -> u16
+    requires { ⌜ FewTypes (now types) × FewProperties (now properties) × Indexed (now properties) (now names) (now index) × (now ancestors ≡ setsOf (now types)) ⌝ }
+    ensures { λ r. ⌜ (r ≡ find.find (modelOf [] (now (types .entry)) (now (properties .entry)) [] [] [] [] [] (now (names .entry))) (now (name .entry)) t) × (r ≤ 512) ⌝ }
 {
-    let found = find(
-        types,
-        properties,
-        names,
-        index,
-        property_text(properties, names, p),
-        t,
-    );
-    (found as u32) == (p as u32) + 1
+    if t >= 64 {
+        return 0;
+    }
+    let first = first_named(properties, names, index, name);
+    if first == 0 {
+        return 0;
+    }
+    let next = next_alike(index, first - 1);
+    let all = type_count(types);
+    if next == 0 {
+        if t < all as u32 {
+            let above = ancestors[t as usize];
+            if in_set(above, property_owner(properties, first - 1)) {
+                return first;
+            }
+            return 0;
+        }
+    }
+    find_among(types, properties, names, index, name, t as u16, first)
 }

@@ -1,26 +1,19 @@
 // The names of records as parts of the name bytes.
 ghost use mathlib.Core.Path.{_≡_};
 ghost use Rattle.packed.specs.Bytes.{part};
-ghost use Rattle.csdl.specs.Tables.{schemaNamespace, schemaAlias, typeName, propertyName, keyAlias, childName, segmentName};
-use records::children::child_name;
-use records::fields::text_of;
-use records::keys::key_alias;
-use records::properties::property_name;
-use records::schemas::schema_alias;
-use records::schemas::schema_namespace;
-use records::segments::segment_name;
-use records::types::type_name;
+ghost use Rattle.csdl.specs.Tables.{schemaNamespace, typeName, propertyName, keyAlias, childName, segmentName};
+use model_image::children::child_name;
+use model_image::fields::text_of;
+use model_image::keys::key_alias;
+use model_image::properties::property_name;
+use model_image::schemas::schema_namespace;
+use model_image::segments::segment_name;
+use model_image::types::type_name;
 
 pub fn namespace_text<'a>(schemas: &[u8], names: &'a [u8], s: u16) -> &'a [u8]
     ensures { λ r. ⌜ now r ≡ part (now (names .entry)) (schemaNamespace (now (schemas .entry)) s .start) (schemaNamespace (now (schemas .entry)) s .size) ⌝ }
 {
     text_of(names, schema_namespace(schemas, s))
-}
-
-pub fn alias_text<'a>(schemas: &[u8], names: &'a [u8], s: u16) -> &'a [u8]
-    ensures { λ r. ⌜ now r ≡ part (now (names .entry)) (schemaAlias (now (schemas .entry)) s .start) (schemaAlias (now (schemas .entry)) s .size) ⌝ }
-{
-    text_of(names, schema_alias(schemas, s))
 }
 
 pub fn type_text<'a>(types: &[u8], names: &'a [u8], t: u16) -> &'a [u8]

@@ -1,69 +1,59 @@
-// Reads the image of a model from standard input, checks it and prints the verdict: the number of segments and what each
-// resolves to, or the broken rule and the place of the faulty record.
-mod line;
+// Prints the sheet of a model: of the image on standard input, or of the image in each file that an argument names; - is standard input.
+// For more than one argument each sheet stands under a line with its name. What cannot be read gets no sheet.
 
-ghost use mathlib.Core.Path.{_≡_};
-ghost use Prim.Native.Nat.{_<_};
-ghost use Rattle.mark.specs.Text.{before};
-use csdl::ModelAnswer;
-use line::accepted_line;
-use line::refused_line;
-use line::segment_line;
-
-fn print_accepted(segments: u16) {
-    let mut text = [0u8; 40];
-    let n = accepted_line(segments, &mut text);
-    io::write_all(1, &text[..n]);
+// Writes the bytes, in one call where the system takes them all, and answers whether it did; a failure is named on standard error.
+fn written(text: &[u8]) -> bool {
+    if io::write_all(libc::STDOUT_FILENO, text) {
+        return true;
+    }
+    os::fail(b"standard output");
+    false
 }
 
-fn print_refused(rule: u16, place: u16) {
-    let mut text = [0u8; 40];
-    let n = refused_line(rule, place, &mut text);
-    io::write_all(1, &text[..n]);
+fn heading(name: &[u8]) -> bool {
+    written(b"== ") && written(name) && written(b"\n")
 }
 
-fn print_segment(place: u16, resolved: u16) {
-    let mut text = [0u8; 40];
-    let n = segment_line(place, resolved, &mut text);
-    io::write_all(1, &text[..n]);
+fn print_sheet(image: &[u8]) {
+    let mut text = [0u8; sheet::SHEET_SIZE];
+    let n = sheet::mark_sheet(image, &mut text);
+    written(&text[..n]);
 }
 
-// The place of the first segment: the records of the seven tables before it, counted by the header.
-fn first_segment(image: &[u8]) -> u32
-    ensures { λ r. ⌜ r ≡ before (now (image .entry)) ⌝ }
-    ensures { λ r. ⌜ r < 458752 ⌝ }
-{
-    let schemas = packed::field16(image, 16, 16) as u32;
-    let types = packed::field16(image, 32, 16) as u32;
-    let properties = packed::field16(image, 48, 16) as u32;
-    let keys = packed::field16(image, 64, 16) as u32;
-    let constraints = packed::field16(image, 80, 16) as u32;
-    let children = packed::field16(image, 96, 16) as u32;
-    let bindings = packed::field16(image, 112, 16) as u32;
-    schemas + types + properties + keys + constraints + children + bindings
+fn mark_input() {
+    let mut image = [0u8; input::IMAGE_SIZE];
+    let read = input::read_image(libc::STDIN_FILENO, b"standard input", &mut image);
+    let n = read.size;
+    if read.whole {
+        print_sheet(&image[..n]);
+    }
 }
 
-// A line for each of the segments, whose two bytes stand in the resolution one after the other. An accepted model has at most 2,000
-// records.
-fn print_resolution(resolution: &[u8], first: u32, segments: u16)
-    requires { ⌜ first < 458752 ⌝ }
-{
-    for k in 0..segments {
-        let place = (first + k as u32) % 65536;
-        print_segment(place as u16, packed::field16(resolution, 16 * k as u32, 16));
+fn mark_argument(i: usize, several: bool) {
+    let mut name = io::buffer();
+    let mut image = [0u8; input::IMAGE_SIZE];
+    let read = input::read_argument(i, &mut name, &mut image);
+    if !read.whole {
+        return;
+    }
+    let n = read.size;
+    if !several {
+        print_sheet(&image[..n]);
+        return;
+    }
+    let k = read.name;
+    if heading(&name[..k]) {
+        print_sheet(&image[..n]);
     }
 }
 
 fn main() {
-    let mut image = [0u8; 13349];
-    let n = io::read_full(0, &mut image);
-    let mut resolution = [0u8; 2048];
-    let answer = model::check_model(&image[..n], &mut resolution);
-    match answer {
-        ModelAnswer::Accepted { segments } => {
-            print_accepted(segments);
-            print_resolution(&resolution, first_segment(&image[..n]), segments);
-        }
-        ModelAnswer::Refused { rule, place } => print_refused(rule, place),
+    let n = os::arg_count();
+    if n < 2 {
+        mark_input();
+        return;
+    }
+    for i in 1..n {
+        mark_argument(i, 2 < n);
     }
 }

@@ -10,8 +10,8 @@ use lib.Dec.{eqb, eqb·zero-suc, eqb·suc-zero, eqb·suc-suc}
 use lib.ListN.{length, getD, take, drop, length-drop, drop-of-length-le, List·getD-eq-default}
 use lib.Seq.{getD-take, getD-drop, drop-cons, take-all, take-nil}
 use lib.Pow.{mod-pow-add, shr-shr, shl-exact, high, low}
-use borrow.Author.Tests.{eqb-true, eqb-false, eq-eqb, ne-eqb}
-use Rattle.packed.specs.Field.{bit, fieldOf, flagOf}
+use borrow.Author.Tests.{eqb-true, eq-eqb, ne-eqb}
+use Rattle.packed.specs.Field.{bit, fieldOf}
 use Rattle.packed.specs.Bytes.{same, part, highByte, lowByte}
 
 -- ---- fields
@@ -67,22 +67,29 @@ field-byte s off (suc n) m h =
     let b : bit s (off + n) ≡ x / 2 ^ m % 2 = bit-byte s off n m (omega arith) in
     rw (field-suc, i, b, ← shr-shr, ← add-one n, mod-pow-add)
 
--- a field of n bits among 32, with k before it and m after it
-within : (s : List ℕ) (at k n m : ℕ) → k + n + m ≡ 32 → fieldOf s at 32 / 2 ^ m % 2 ^ n ≡ fieldOf s (at + k) n
-within s at k n m h =
+-- a field of n bits among w, with k before it and m after it
+within : (s : List ℕ) (at w k n m : ℕ) → k + n + m ≡ w → fieldOf s at w / 2 ^ m % 2 ^ n ≡ fieldOf s (at + k) n
+within s at w k n m h =
     rw (← h, field-add s at (k + n) m, high (fieldOf s at (k + n)) m (field-lt s (at + (k + n)) m), field-add s at k n)
     (low (fieldOf s at k) n (field-lt s (at + k) n))
 
--- a field within the 32 bits from its first byte on, with m of them after it
-pub field-word : (s : List ℕ) (off n m : ℕ) → off % 8 + n + m ≡ 32 → fieldOf s (8 * (off / 8)) 32 / 2 ^ m % 2 ^ n ≡ fieldOf s off n
-field-word s off n m h =
+-- a field within the w bits from its first byte on, with m of them after it
+pub field-within : (s : List ℕ) (off w n m : ℕ) → off % 8 + n + m ≡ w → fieldOf s (8 * (off / 8)) w / 2 ^ m % 2 ^ n ≡ fieldOf s off n
+field-within s off w n m h =
     let o : 8 * (off / 8) + off % 8 ≡ off = omega arith in
-    within s (8 * (off / 8)) (off % 8) n m h ∙ rw o
+    within s (8 * (off / 8)) w (off % 8) n m h ∙ rw o
 
 -- n bits more, of the 32 bits from the byte of bit `off + w` on, which have m bits after them
 pub field-more : (s : List ℕ) (off w n m : ℕ) → (off + w) % 8 + n + m ≡ 32
     → fieldOf s off w * 2 ^ n + fieldOf s (8 * ((off + w) / 8)) 32 / 2 ^ m % 2 ^ n ≡ fieldOf s off (w + n)
-field-more s off w n m h = rw (field-add, field-word s (off + w) n m h)
+field-more s off w n m h = rw (field-add, field-within s (off + w) 32 n m h)
+
+-- a field of w + n bits as two, the one above its n low bits and these
+pub field-high : (s : List ℕ) (off w n : ℕ) → fieldOf s off (w + n) / 2 ^ n ≡ fieldOf s off w
+field-high s off w n = rw (field-add s off w n) (high (fieldOf s off w) n (field-lt s (off + w) n))
+
+pub field-low : (s : List ℕ) (off w n : ℕ) → fieldOf s off (w + n) % 2 ^ n ≡ fieldOf s (off + w) n
+field-low s off w n = rw (field-add s off w n) (low (fieldOf s off w) n (field-lt s (off + w) n))
 
 -- a field of the part of n bytes from byte a on
 bit-part : (s : List ℕ) (a n k : ℕ) → k < 8 * n → bit (part s a n) k ≡ bit s (8 * a + k)
@@ -109,35 +116,18 @@ field-16 s k h j =
     let e : 8 * k + 8 ≡ 8 * (k + 1) = omega arith in
     rw (field-add s (8 * k) 8 8, e, field-8 s k h, field-8 s (k + 1) j)
 
--- four bytes, as the code reads them
+-- two bytes, as the code reads them, and four
+pub field-pair : (s : List ℕ) (k a b : ℕ) → (a ≡ getD s k 0) × (a < 256) → (b ≡ getD s (k + 1) 0) × (b < 256) → a * 256 + b ≡ fieldOf s (8 * k) 16
+field-pair s k a b (p, u) (q, v) = sym (rw (field-16 s k (rw (← p) u) (rw (← q) v), ← p, ← q))
+
 pub field-32 : (s : List ℕ) (k a b c d : ℕ) → (a ≡ getD s k 0) × (a < 256) → (b ≡ getD s (k + 1) 0) × (b < 256) → (c ≡ getD s (k + 2) 0) × (c < 256) → (d ≡ getD s (k + 3) 0) × (d < 256)
     → (a * 256 + b) * 65536 + (c * 256 + d) ≡ fieldOf s (8 * k) 32
 field-32 s k a b c d (p, u) (q, v) (x, w) (y, z) =
     let e : 8 * k + 16 ≡ 8 * (k + 2) = omega arith in
     let t : k + 2 + 1 ≡ k + 3 = omega arith in
-    let hi : fieldOf s (8 * k) 16 ≡ a * 256 + b = rw (field-16 s k (rw (← p) u) (rw (← q) v), ← p, ← q) in
+    let hi : fieldOf s (8 * k) 16 ≡ a * 256 + b = sym (field-pair s k a b (p, u) (q, v)) in
     let lo : fieldOf s (8 * (k + 2)) 16 ≡ c * 256 + d = rw (field-16 s (k + 2) (rw (← x) w) (rw (t, ← y) z), t, ← x, ← y) in
     rw (field-add s (8 * k) 16 16, e, hi, lo)
-
--- ---- flags
-module _ (s : List ℕ) (off : ℕ) where
-  pub flag-true : flagOf s off ≡ true → fieldOf s off 1 ≡ 1
-  unfolding flagOf
-  flag-true = eqb-true (fieldOf s off 1) 1
-
-  pub flag-false : flagOf s off ≡ false → fieldOf s off 1 ≡ 0
-  unfolding flagOf
-  flag-false h =
-      let n : fieldOf s off 1 ≡ 1 → ⊥ = eqb-false (fieldOf s off 1) 1 h in
-      omega (arith, n, field-lt s off 1)
-
-  pub flag-set : fieldOf s off 1 ≡ 1 → flagOf s off ≡ true
-  unfolding flagOf
-  flag-set = eq-eqb (fieldOf s off 1) 1
-
-  pub flag-clear : fieldOf s off 1 ≡ 0 → flagOf s off ≡ false
-  unfolding flagOf
-  flag-clear h = rw h
 
 -- `1 << n`
 pub one-shl : (n : ℕ) → n < 64 → 1 * 2 ^ n % 2 ^ 64 ≡ 2 ^ n
@@ -216,13 +206,6 @@ module _ (a b : List ℕ) (i : ℕ) (e : length a ≡ length b) where
   unfolding same
   same-end h = rw (drop-of-length-le a {i = i} h, drop-of-length-le b {i = i} (omega arith))
 
--- ---- the two bytes of a 16-bit number
-module _ (n : ℕ) where
-  pub two-bytes : highByte n * 256 + lowByte n ≡ n
-  two-bytes = omega arith
-
-  pub high-lt : n < 65536 → highByte n < 256
-  high-lt h = omega arith
-
-  pub low-lt : lowByte n < 256
-  low-lt = omega arith
+-- ---- the two bytes of a number
+pub two-bytes : (n : ℕ) → highByte n * 256 + lowByte n ≡ n
+two-bytes n = omega arith

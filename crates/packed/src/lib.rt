@@ -62,6 +62,17 @@ fn word_at(s: &[u8], i: usize) -> u64
     )
 }
 
+// The 16 bits from byte i on.
+fn pair_at(s: &[u8], i: usize) -> u64
+    requires { ⌜ i < 4294967296 ⌝ }
+    ensures { λ r. ⌜ r ≡ fieldOf (now (s .entry)) (8 * i) 16 ⌝ }
+{
+    if i + 2 <= s.len() {
+        return joined(byte_in(s, i), byte_in(s, i + 1), 8, 8);
+    }
+    joined(byte_at(s, i), byte_at(s, i + 1), 8, 8)
+}
+
 // The n low bits of x.
 fn low_bits(x: u64, n: usize) -> u64
     requires { ⌜ n ≤ 32 ⌝ }
@@ -78,8 +89,8 @@ fn joined(hi: u64, lo: u64, k: usize, n: usize) -> u64
     (hi << n) | lo
 }
 
-// The number made of the `width` bits of s from bit `off` on, most significant first. Bits past the end are 0.
-pub fn field(s: &[u8], off: u32, width: u32) -> u64
+// A field of any width, 32 bits of the bytes at a time.
+fn long_field(s: &[u8], off: u32, width: u32) -> u64
     requires { ⌜ width ≤ 64 ⌝ }
     ensures { λ r. ⌜ r ≡ fieldOf (now (s .entry)) off width ⌝ }
     ensures { λ r. ⌜ r < 2 ^ width ⌝ }
@@ -99,6 +110,25 @@ pub fn field(s: &[u8], off: u32, width: u32) -> u64
     r
 }
 
+// The number made of the `width` bits of s from bit `off` on, most significant first. Bits past the end are 0. A field that lies in one byte
+// or in two takes one read.
+pub fn field(s: &[u8], off: u32, width: u32) -> u64
+    requires { ⌜ width ≤ 64 ⌝ }
+    ensures { λ r. ⌜ r ≡ fieldOf (now (s .entry)) off width ⌝ }
+    ensures { λ r. ⌜ r < 2 ^ width ⌝ }
+{
+    let from = off as usize;
+    let n = width as usize;
+    let used = in_byte(from) + n;
+    if used <= 8 {
+        return low_bits(byte_at(s, from >> 3) >> (8 - used), n);
+    }
+    if used <= 16 {
+        return low_bits(pair_at(s, from >> 3) >> (16 - used), n);
+    }
+    long_field(s, off, width)
+}
+
 // A field of at most 16 bits.
 pub fn field16(s: &[u8], off: u32, width: u32) -> u16
     requires { ⌜ width ≤ 16 ⌝ }
@@ -106,6 +136,25 @@ pub fn field16(s: &[u8], off: u32, width: u32) -> u16
     ensures { λ r. ⌜ r < 2 ^ width ⌝ }
 {
     field(s, off, width) as u16
+}
+
+// Two fields, one behind the other.
+pub struct Two {
+    pub first: u16,
+    pub second: u16,
+}
+
+// The field of w bits at `off` and the n bits behind it, read at once.
+pub fn two_fields(s: &[u8], off: u32, w: u32, n: u32) -> Two
+    requires { ⌜ (w ≤ 16) × (n ≤ 16) ⌝ }
+    ensures { λ r. ⌜ (r .first ≡ fieldOf (now (s .entry)) off w) × (r .first < 2 ^ w) ⌝ }
+    ensures { λ r. ⌜ (r .second ≡ fieldOf (now (s .entry)) (off + w) n) × (r .second < 2 ^ n) ⌝ }
+{
+    let both = field(s, off, w + n);
+    Two {
+        first: (both >> n) as u16,
+        second: low_bits(both, n as usize) as u16,
+    }
 }
 
 // Whether bit `off` is set.
@@ -151,12 +200,12 @@ pub fn part_of(s: &[u8], start: u16, len: u16) -> &[u8]
 pub fn high_byte(x: u16) -> u8
     ensures { λ r. ⌜ r ≡ highByte x ⌝ }
 {
-    (x / 256) as u8
+    (x >> 8) as u8
 }
 
 // The low byte of a 16-bit number.
 pub fn low_byte(x: u16) -> u8
     ensures { λ r. ⌜ r ≡ lowByte x ⌝ }
 {
-    (x % 256) as u8
+    (x & 255) as u8
 }

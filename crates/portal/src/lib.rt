@@ -1,17 +1,20 @@
 // The functions that the exam portal, written in C, calls. A slice is a pointer and then a length; buffers may not overlap.
 // The result is one 64-bit number: a refusal is rule * 2^32 + place, and the rule is never 0; an accepted model is its number of
 // segments, an accepted instance is 0, and a walk is results * 65536 + opened slots. outside/c/tour_model.h says the same for C.
+// Each contract has the equations of the word and of the buffer, and the promise that follows from them, clause by clause: crates/demands/specs/Demands.
 ghost use mathlib.Core.Path.{_≡_};
-ghost use Prim.Native.Nat.{_+_, _*_};
+ghost use Prim.Native.Nat.{_+_, _*_, _≤_};
 ghost use Rattle.csdl.specs.Conforms.{instanceAnswer};
+ghost use Rattle.csdl.specs.Instance.{instanceIn};
 ghost use Rattle.csdl.specs.Verdict.{modelAnswer, modelBuffer};
 ghost use Rattle.csdl.specs.Walk.{walkAnswer, walkBuffer};
-ghost use Rattle.portal.specs.Word.{word};
-use conformance::check_instance;
+ghost use Rattle.demands.specs.Word.{word, upper, openedIn};
+ghost use Rattle.demands.specs.Demands.{ModelPromise, InstancePromise, WalkPromise};
 use csdl::InstanceAnswer;
 use csdl::ModelAnswer;
 use csdl::WalkAnswer;
-use model::check_model;
+use instance_check::check_instance;
+use model_check::check_model;
 use walk::walk;
 
 // A refusal's two numbers in one.
@@ -26,6 +29,7 @@ fn refusal(rule: u16, place: u16) -> u64
 pub extern "C" fn tour_check_model(image: &[u8], resolution: &mut [u8]) -> u64
     ensures { λ r. ⌜ r ≡ word (modelAnswer (now (image .entry)) (now (resolution .entry))) ⌝ }
     ensures { λ r. ⌜ now (resolution .exit) ≡ modelBuffer (now (image .entry)) (now (resolution .entry)) ⌝ }
+    ensures { λ r. ⌜ ModelPromise (now (image .entry)) (now (resolution .entry)) r (now (resolution .exit)) ⌝ }
 {
     let answer = check_model(image, resolution);
     match answer {
@@ -38,6 +42,7 @@ pub extern "C" fn tour_check_model(image: &[u8], resolution: &mut [u8]) -> u64
 #[no_mangle]
 pub extern "C" fn tour_check_instance(model: &[u8], instance: &[u8]) -> u64
     ensures { λ r. ⌜ r ≡ word (instanceAnswer (now (model .entry)) (now (instance .entry))) ⌝ }
+    ensures { λ r. ⌜ InstancePromise (now (model .entry)) (now (instance .entry)) r ⌝ }
 {
     let answer = check_instance(model, instance);
     match answer {
@@ -58,6 +63,8 @@ pub extern "C" fn tour_walk(
 ) -> u64
     ensures { λ r. ⌜ r ≡ word (walkAnswer (now (model .entry)) (now (instance .entry)) place path node (now (results .entry))) ⌝ }
     ensures { λ r. ⌜ now (results .exit) ≡ walkBuffer (now (model .entry)) (now (instance .entry)) place path node (now (results .entry)) ⌝ }
+    ensures { λ r. ⌜ (upper r ≡ 0 → openedIn r ≤ instanceIn (now (instance .entry)) .slots) ⌝ }
+    ensures { λ r. ⌜ WalkPromise (now (model .entry)) (now (instance .entry)) place path node (now (results .entry)) r (now (results .exit)) ⌝ }
 {
     let answer = walk(model, instance, place, path, node, results);
     match answer {

@@ -10,12 +10,12 @@ use borrow.Author.Tests.{ltb-true, ltb-false, leb-true, leb-false}
 use Rattle.csdl.specs.Search.{mark, countFrom, sumFrom, tab, flat}
 use Rattle.csdl.specs.Tables.{Run}
 use Rattle.csdl.specs.Model.{Model, inRun}
-use Rattle.csdl.specs.Find.{structured, isAt}
+use Rattle.csdl.specs.Find.{structured, ancestorOrSelf}
 use Rattle.csdl.specs.Path.{Segment}
 use Rattle.csdl.specs.Path.Segment.{name, cast}
 use Rattle.csdl.specs.Instance.{Instance, itemBytes}
 use Rattle.csdl.specs.Conforms.{slotsWith}
-use Rattle.csdl.specs.Walk.{Item, slotNamed, itemAt, contents, contentsBy, opening, openedBy, after, nextStage, walked, opened, handleBytes, bytesOfItem}
+use Rattle.csdl.specs.Walk.{Item, slotNamed, itemAt, contents, contentsBy, opening, openedBy, after, nextStage, walked, opened, bytesOfNumber, bytesOfItem}
 use Rattle.csdl.specs.Walk.Item.{null, held}
 use Rattle.csdl.specs.Walk.Origin.{at-slot, at-cast}
 use Rattle.csdl.proofs.Logic.{sum-same, tab-length}
@@ -44,7 +44,7 @@ module _ (m : Model) (i : Instance) where
       go zero = omega arith
       go (suc s) = omega (arith, contents-length i s)
   after-length (cast c) (null o) = omega arith
-  after-length (cast c) (held r v) = go (structured m r) (isAt m c r)
+  after-length (cast c) (held r v) = go (structured m r) (ancestorOrSelf m c r)
     where
       go : (a b : Bool) → length (cond a (cond b (held r v) (null (at-cast c v)) ∷ []) []) ≤ 1
       go true b = omega arith
@@ -106,8 +106,8 @@ module _ (m : Model) (i : Instance) (j : InstanceFacts m i) where
   all-weight = sum-add (λ s. 1) (λ s. i .slotItems s .count) 0 (i .slots) ∙ ap₂ _+_ (sum-ones 0 (i .slots)) all-items
 
 -- The bytes of the items.
-item-length : (x : Item) → length (bytesOfItem x) ≡ itemBytes
-unfolding bytesOfItem handleBytes
+pub item-length : (x : Item) → length (bytesOfItem x) ≡ itemBytes
+unfolding bytesOfItem bytesOfNumber
 item-length (null o) = refl
 item-length (held r h) = refl
 

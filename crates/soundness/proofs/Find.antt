@@ -10,7 +10,7 @@ use borrow.Author.Tests.{eqb-true, eq-eqb, ltb-true, ltb-false, lt-ltb}
 use Rattle.packed.specs.Bytes.{same}
 use Rattle.packed.proofs.Laws.{same-sound, same-refl}
 use Rattle.csdl.specs.Model.{Model, text}
-use Rattle.csdl.specs.Find.{ancestor, isAt, structured, declares, own, find}
+use Rattle.csdl.specs.Find.{ancestor, ancestorOrSelf, structured, declares, own, find}
 use Rattle.csdl.specs.Properties.{alike, sameName, redeclares}
 use Rattle.csdl.proofs.Logic.{and-cases, and-both, or-cases, or-right, first-found}
 use Rattle.csdl.proofs.Climbing.{Above, climb-sound, climb-found, nearest-sound, nearest-is-own, nearest-is-up}
@@ -39,8 +39,8 @@ module _ (m : Model) where
   above-at t e here = is-next e
   above-at t e (up-to {t = w} f r) = of-next e (above-at w f r)
 
-  pub at-sound : (a t : ℕ) → isAt m a t ≡ true → At m a t
-  unfolding isAt ancestor
+  pub at-sound : (a t : ℕ) → ancestorOrSelf m a t ≡ true → At m a t
+  unfolding ancestorOrSelf ancestor
   at-sound a t e = ⊎-elim (λ h. at-same (eqb-true t a h)) (λ h. at-above (climb-sound (m .base) a (m .types) t h)) (or-cases (eqb t a) (ancestor m a t) e)
 
   -- What a name means at a type: a property of that name, declared at the type or above it.
@@ -129,8 +129,8 @@ module _ (m : Model) (k : ModelFacts m) where
   unfolding ancestor
   above-found a t l r = climb-found (m .base) a (m .types) (k .base-small) t l r
 
-  pub at-is : (a t : ℕ) → At m a t → isAt m a t ≡ true
-  unfolding isAt
+  pub at-is : (a t : ℕ) → At m a t → ancestorOrSelf m a t ≡ true
+  unfolding ancestorOrSelf
   at-is a t here = rw (eq-eqb a a refl)
   at-is a t (up-to {u} e r) = or-right (eqb t a) (ancestor m a t) (above-found a t (base-below t u e) (above-at m t e r))
 

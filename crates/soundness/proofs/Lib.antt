@@ -14,3 +14,4 @@ pub mod PathRules
 pub mod Together
 pub mod Demands
 pub mod Worked
+pub mod Plain

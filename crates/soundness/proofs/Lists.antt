@@ -1,10 +1,11 @@
 -- Laws of lists: of each element, of no number twice, sums over a list.
 use Prim.Native.Nat.{ℕ, zero, suc, _+_, _≤_, _<_, zero-le}
-use mathlib.Core.Path.{_≡_, refl, sym, ap, _∙_}
-use mathlib.Core.List.{List, [], _∷_, _++_, append-nil, append-assoc}
+use mathlib.Core.Path.{_≡_, refl, sym, ap, _∙_, subst}
+use mathlib.Core.List.{List, [], _∷_, _++_, append-nil, append-assoc, List·Memᴰ}
+use mathlib.Core.List.List·Memᴰ.{List·Memᴰ·head, List·Memᴰ·tail}
 use mathlib.Core.Bool.{Bool, true, false, cond}
 use native.Mathlib.Omega.{arith}
-use lib.ListN.{length}
+use lib.ListN.{length, getD}
 use lib.Dec.{eqb}
 use borrow.Author.Tests.{eqb-true, eqb-false, eq-eqb, ne-eqb}
 use Rattle.csdl.specs.Search.{mark, sumFrom, tab, flat, all}
@@ -42,6 +43,15 @@ all-tab P f i (suc n) h = both (h i (omega arith) (omega arith)) (all-tab P f (i
 
 pub all-head : {A : Type 0} {P : A → Type 0} {x : A} {l : List A} → All P (x ∷ l) → P x
 all-head (both p h) = p
+
+pub all-member : {A : Type 0} {P : A → Type 0} {x : A} {l : List A} → All P l → List·Memᴰ x l → P x
+all-member {P = P} (both p h) (List·Memᴰ·head e) = subst P (sym e) p
+all-member (both p h) (List·Memᴰ·tail d) = all-member h d
+
+pub all-getD : {A : Type 0} {P : A → Type 0} (d : A) {l : List A} → P d → All P l → (k : ℕ) → P (getD l k d)
+all-getD d q none k = q
+all-getD d q (both p h) zero = p
+all-getD d q (both p h) (suc k) = all-getD d q h k
 
 -- Lists put in the place of elements.
 pub flat-one : {A B : Type 0} (f : A → List B) (x : A) → flat f (x ∷ []) ≡ f x

@@ -9,7 +9,7 @@ use lib.Dec.{eqb, ltb}
 use borrow.Author.Tests.{ltb-true, lt-ltb}
 use Rattle.csdl.specs.Search.{tab, flat}
 use Rattle.csdl.specs.Model.{Model, inRun}
-use Rattle.csdl.specs.Find.{isAt, ofKind, complex, complexStep, containStep, integral}
+use Rattle.csdl.specs.Find.{ancestorOrSelf, ofKind, complex, complexStep, containStep, integral}
 use Rattle.csdl.specs.Path.{Segment}
 use Rattle.csdl.specs.Instance.{Instance}
 use Rattle.csdl.specs.Conforms.{isNull, nodesWith, slotsWith}
@@ -224,9 +224,9 @@ module _ (m : Model) (i : Instance) (k : ModelFacts m) (j : InstanceFacts m i) w
           )
   once {t} (by-cast {c} {gs} sc e w) r v f =
       let sr = structured-at m k t r (f .0) (structured-up m k t c (at-sound m t c e) sc) in
-      rw (sr, flat-one (below m i gs) (cond (isAt m c r) (held r v) (null (at-cast c v)))) (go (isAt m c r) refl (once w r v))
+      rw (sr, flat-one (below m i gs) (cond (ancestorOrSelf m c r) (held r v) (null (at-cast c v)))) (go (ancestorOrSelf m c r) refl (once w r v))
     where
-      go : (b : Bool) → isAt m c r ≡ b → (Fits m i c (held r v) → Distinct (below m i gs (held r v)) × All (Under v) (below m i gs (held r v))) →
+      go : (b : Bool) → ancestorOrSelf m c r ≡ b → (Fits m i c (held r v) → Distinct (below m i gs (held r v)) × All (Under v) (below m i gs (held r v))) →
           Distinct (below m i gs (cond b (held r v) (null (at-cast c v)))) × All (Under v) (below m i gs (cond b (held r v) (null (at-cast c v))))
       go true q rest = rest (at-sound m c r q, f .1)
       go false q rest = rw (below-null m i gs (at-cast c v)) (tt, none)

@@ -1,6 +1,6 @@
 -- Every path that a record of an accepted model holds resolves, and no name but its last is a navigation property without containment.
 use Prim.Native.Nat.{ℕ, _+_, _-_, _≤_, _<_, zero-le}
-use mathlib.Core.Path.{_≡_, refl, sym, subst}
+use mathlib.Core.Path.{_≡_, refl, sym, subst, _∙_}
 use mathlib.Core.List.{List, [], _∷_}
 use mathlib.Core.Bool.{Bool, true, false, cond, not, _&&_, _||_, or-true}
 use mathlib.Core.Logic.{⊎-elim}
@@ -14,17 +14,18 @@ use Rattle.csdl.specs.Path.{Segment, Step, Kind, segmentAt, segmentsOf, along, 
 use Rattle.csdl.specs.Path.Segment.{name, cast}
 use Rattle.csdl.specs.Path.Step.{property, type}
 use Rattle.csdl.specs.Path.Kind.{partner, key, dependent, principal, binding, target}
-use Rattle.csdl.specs.Form.{rule4, run4cd, path4, optionalPath4, property4, key4, constraint4, binding4}
-use Rattle.csdl.specs.Paths.{stuckIn, stuck, segment14, rule14, hasCast, lastStep, keyStep, keyEnd, keyType, key15, key15c, key15d, key15e, rule15, constraintStep, constraintPath, constraint16, constraint16cd, rule16, property17, property17b, rule17, crosses, bindingForm, binding19abc, targetStep, targetForm, binding19, binding19g, rule19}
+use Rattle.csdl.proofs.Clauses.{rule14-is, no-kind}
+use Rattle.csdl.specs.Paths.{unresolvedIn, unresolvedOf, unresolved, rule14, hasCast, keyStep, keyEnd, keyType, key15, key15c, key15d, key15e, rule15, constraintStep, brokenInner, constraint16, rule16, property17, property17b, rule17, nonContainment, targetStep, binding19, binding19c, binding19g, rule19}
 use Rattle.csdl.specs.Walk.{Chosen, ifPresent, pathChosen}
 use Rattle.csdl.specs.Walk.Chosen.{none, chosen}
 use Rattle.csdl.specs.declared.Record.{Record}
 use Rattle.csdl.specs.declared.Record.the-variants.{OfSchema, OfType, OfProperty, OfKey, OfConstraint, OfChild, OfBinding, OfSegment, Nowhere}
 use Rattle.csdl.specs.Accepted.{ModelKept}
-use Rattle.csdl.proofs.Logic.{or-no, or-left, or-cases, and-cases, and-no, any-none, in-run}
-use Rattle.csdl.proofs.Places.{of-property, of-key, of-constraint, of-binding, of-segment}
+use Rattle.csdl.proofs.Logic.{or-no, or-left, or-cases, and-cases, and-no, any-none, in-run, off}
+use Rattle.csdl.proofs.Numbers.{numbers-fit}
+use Rattle.csdl.proofs.Places.{property-at, key-at, constraint-at, binding-at, of-property, of-key, of-constraint, of-binding, of-segment}
+use Rattle.soundness.specs.Demand.{Held, heldPlace, heldNumber}
 use Rattle.soundness.proofs.Facts.{ModelFacts}
-use Rattle.soundness.proofs.Rules.{off, run-fits}
 use Rattle.soundness.proofs.Ways.{Way, inner, names, way, way-map, on-inner, on-all, noCast}
 
 -- Of the two cases of a test, the one that it takes.
@@ -56,11 +57,6 @@ in-table m place =
     taken (InTable m) (ltb place (segmentsAt m)) _ _ (λ h. omega (arith, ltb-true place (segmentsAt m) h, ltb-false place (bindingsAt m) h6)) (λ h7.
     taken (InTable m) (ltb place (places m)) _ _ (λ h. omega (arith, ltb-true place (places m) h, ltb-false place (segmentsAt m) h7)) (λ h. tt))))))))
 
--- Record r holds a path of the kind.
-pub record Held (m : Model) (w : Kind) (r : ℕ) : Type 0 where
-  pub holder-there : r < holders m w
-  pub path-there : present (pathOf m w r) ≡ true
-
 unfoldable HeldBy : Model → Chosen → Type 0
 HeldBy m none = Unit {0}
 HeldBy m (chosen w r) = Held m w r
@@ -88,6 +84,16 @@ all-held m Nowhere n l = tt
 pub held-at : (m : Model) (place n : ℕ) (w : Kind) (r : ℕ) → pathChosen m (recordAt m place) n ≡ chosen w r → Held m w r
 unfolding HeldBy
 held-at m place n w r e = subst (HeldBy m) e (all-held m (recordAt m place) n (in-table m place))
+
+-- Each held path is the one that its place and number choose.
+pub held-chosen : (m : Model) (w : Kind) (r : ℕ) → Held m w r → pathChosen m (recordAt m (heldPlace m w r)) (heldNumber w) ≡ chosen w r
+unfolding pathChosen heldPlace heldNumber holders
+held-chosen m partner r h = rw (property-at m r (h .holder-there), h .path-there)
+held-chosen m key r h = rw (key-at m r (h .holder-there), h .path-there)
+held-chosen m dependent r h = rw (constraint-at m r (h .holder-there), h .path-there)
+held-chosen m principal r h = rw (constraint-at m r (h .holder-there), h .path-there)
+held-chosen m binding r h = rw (binding-at m r (h .holder-there), h .path-there)
+held-chosen m target r h = rw (binding-at m r (h .holder-there), h .path-there)
 
 -- Laws of lists of steps.
 module _ (bad : Step → Bool) (good : ℕ → Bool) (fine : (p : ℕ) → bad (property p) ≡ false → good p ≡ true) where
@@ -139,48 +145,25 @@ no-casts m t (cast c ∷ gs) e = sym e
 
 -- No navigation property without containment.
 abbrev pub stays : Model → ℕ → Bool
-stays m p = not (crosses m p)
+stays m p = not (nonContainment m p)
 
 module _ (m : Model) (k : ModelKept m) where
   -- Rule 4: the path lies within the segments.
-  within : (w : Kind) (r : ℕ) → Held m w r → pathOf m w r .first + pathOf m w r .count ≤ m .segments
-  unfolding holders pathOf rule4 property4 key4 constraint4 binding4 path4 optionalPath4
-  within partner p h =
-      run-fits (m .segments) (m .partner p)
-      (off (property4 m p) (optionalPath4 m (m .partner p)) (λ q. simp (q, or-true)) (of-property m rule4 (k .kept4) p (h .holder-there)))
-  within key c h =
-      run-fits (m .segments) (m .keyPath c)
-      (off (key4 m c) (run4cd (m .segments) (m .keyPath c)) (λ q. simp (q, or-true)) (of-key m rule4 (k .kept4) c (h .holder-there)))
-  within dependent c h =
-      run-fits (m .segments) (m .dependent c)
-      (off (constraint4 m c) (run4cd (m .segments) (m .dependent c)) (λ q. simp (q, or-true)) (of-constraint m rule4 (k .kept4) c (h .holder-there)))
-  within principal c h =
-      run-fits (m .segments) (m .principal c)
-      (off (constraint4 m c) (run4cd (m .segments) (m .principal c)) (λ q. simp (q, or-true)) (of-constraint m rule4 (k .kept4) c (h .holder-there)))
-  within binding b h =
-      run-fits (m .segments) (m .bindingPath b)
-      (off (binding4 m b) (run4cd (m .segments) (m .bindingPath b)) (λ q. simp (q, or-true)) (of-binding m rule4 (k .kept4) b (h .holder-there)))
-  within target b h =
-      run-fits (m .segments) (m .targetPath b)
-      (off (binding4 m b) (run4cd (m .segments) (m .targetPath b)) (λ q. simp (q, or-true)) (of-binding m rule4 (k .kept4) b (h .holder-there)))
+  pub within : (w : Kind) (r : ℕ) → Held m w r → pathOf m w r .first + pathOf m w r .count ≤ m .segments
+  within w r h = numbers-fit m (k .kept4) .path-there w r (h .holder-there)
 
-  -- Rule 14: no segment is stuck, so the path resolves.
-  unstuck : (w : Kind) (g : ℕ) → g < m .segments → stuck m w g ≡ false
-  unfolding segment14
-  unstuck partner g l = off (segment14 m g) (stuck m partner g) (λ q. rw q) (of-segment m rule14 (k .kept14) g l)
-  unstuck key g l = off (segment14 m g) (stuck m key g) (λ q. simp (q, or-true)) (of-segment m rule14 (k .kept14) g l)
-  unstuck dependent g l = off (segment14 m g) (stuck m dependent g) (λ q. simp (q, or-true)) (of-segment m rule14 (k .kept14) g l)
-  unstuck principal g l = off (segment14 m g) (stuck m principal g) (λ q. simp (q, or-true)) (of-segment m rule14 (k .kept14) g l)
-  unstuck binding g l = off (segment14 m g) (stuck m binding g) (λ q. simp (q, or-true)) (of-segment m rule14 (k .kept14) g l)
-  unstuck target g l = off (segment14 m g) (stuck m target g) (λ q. simp (q, or-true)) (of-segment m rule14 (k .kept14) g l)
+  -- Rule 14: every segment resolves, so the path does.
+  none-unresolved : (w : Kind) (g : ℕ) → g < m .segments → unresolvedOf m w g ≡ false
+  unfolding unresolved
+  none-unresolved w g l = no-kind (λ x. unresolvedOf m x g) (sym (rule14-is m g) ∙ of-segment m rule14 (k .kept14) g l) w
 
   pub resolved : (w : Kind) (r : ℕ) → Held m w r → resolves m (startOf m w r) (segmentsOf m (pathOf m w r)) ≡ true
-  unfolding stuck stuckIn
+  unfolding unresolvedOf unresolvedIn
   resolved w r h =
       let run = pathOf m w r in
       let n = eqb-false (run .count) 0 (not-true (eqb (run .count) 0) (h .path-there)) in
       let g = run .first + run .count - 1 in
-      let e = any-none (λ x. stuckIn m w g x) 0 (holders m w) (unstuck w g (omega (arith, within w r h, n))) r zero-le (omega (arith, h .holder-there)) in
+      let e = any-none (λ x. unresolvedIn m w g x) 0 (holders m w) (none-unresolved w g (omega (arith, within w r h, n))) r zero-le (omega (arith, h .holder-there)) in
       let here = in-run run g (omega (arith, n)) (omega (arith, n)) in
       let c : g + 1 - run .first ≡ run .count = omega (arith, n) in
       let part = resolves m (startOf m w r) (tab (λ x. segmentAt m x) (run .first) (g + 1 - run .first)) in
@@ -189,15 +172,15 @@ module _ (m : Model) (k : ModelKept m) where
 
   -- What a step of each kind of path may be.
   complex-stays : (p : ℕ) → complexStep m p ≡ true → stays m p ≡ true
-  unfolding complexStep crosses
+  unfolding complexStep nonContainment
   complex-stays p e = let c = and-cases (not (m .navigation p)) (complex m (m .typeRef p)) e in rw (not-true (m .navigation p) (c .0))
 
   contain-stays : (p : ℕ) → containStep m p ≡ true → stays m p ≡ true
-  unfolding containStep crosses
+  unfolding containStep nonContainment
   contain-stays p e = let c = and-cases (m .navigation p) (m .contains p) e in rw (c .0, c .1)
 
   plain-stays : (p : ℕ) → m .navigation p ≡ false → stays m p ≡ true
-  unfolding crosses
+  unfolding nonContainment
   plain-stays p e = rw e
 
   key-stays : (p : ℕ) → not (keyStep m p) ≡ false → stays m p ≡ true
@@ -220,28 +203,17 @@ module _ (m : Model) (k : ModelKept m) where
       all (stays m) (butLast (properties l)) ≡ true
   from-steps bad fine l e = but-names (stays m) l (none-bad bad (stays m) fine (butLast l) e)
 
-  form-stays : (test : ℕ → Bool) (l : List ℕ) → bindingForm m test l ≡ false → all (stays m) (butLast l) ≡ true
-  unfolding bindingForm some all butLast
-  form-stays test [] e = refl
-  form-stays test (p ∷ l) e = every (butLast (p ∷ l)) (or-no (not (test (lastOr p l))) (some (λ q. crosses m q) (butLast (p ∷ l))) e .1)
-    where
-      every : (x : List ℕ) → some (λ q. crosses m q) x ≡ false → all (stays m) x ≡ true
-      every [] f = refl
-      every (q ∷ x) f = let c = or-no (crosses m q) (some (λ z. crosses m z) x) f in rw (c .0) (every x (c .1))
+  names-stay : (l : List ℕ) → some (λ q. nonContainment m q) l ≡ false → all (stays m) l ≡ true
+  unfolding some all
+  names-stay [] f = refl
+  names-stay (q ∷ l) f = let c = or-no (nonContainment m q) (some (λ z. nonContainment m z) l) f in rw (c .0) (names-stay l (c .1))
 
-  target-form : (l : List Step) → targetForm m l ≡ false → some (λ s. isOther (λ p. targetStep m p) s) (butLast l) ≡ false
-  unfolding targetForm some butLast
-  target-form [] e = refl
-  target-form (s ∷ l) e = or-no (some (λ x. isOther (λ p. targetStep m p) x) (butLast (s ∷ l))) (isOther (λ p. containStep m p) (lastOr s l)) e .0
-
-  constraint-form : (l : List Step) → constraintPath m l ≡ false → all (stays m) (butLast (properties l)) ≡ true
-  unfolding constraintPath
-  constraint-form l e =
-      from-steps (λ s. isOther (λ p. constraintStep m p) s) constraint-stays l
-      (or-no (some (λ s. isOther (λ p. constraintStep m p) s) (butLast l)) (isProperty (λ p. m .navigation p) (lastStep l)) e .0)
+  constraint-form : (l : List Step) → brokenInner m l ≡ false → all (stays m) (butLast (properties l)) ≡ true
+  unfolding brokenInner
+  constraint-form l e = from-steps (λ s. isOther (λ p. constraintStep m p) s) constraint-stays l e
 
   pub inner-stays : (w : Kind) (r : ℕ) → Held m w r → all (stays m) (butLast (properties (pathSteps m w r))) ≡ true
-  unfolding holders pathOf property17 key15 constraint16 constraint16cd binding19
+  unfolding holders pathOf property17 key15 constraint16 binding19
   inner-stays partner p h =
       let e = off (property17 m p) (property17b m p) (λ q. rw (h .path-there) (simp (q, or-true))) (of-property m rule17 (k .kept17) p (h .holder-there)) in
       from-steps (λ s. isProperty (λ q. m .navigation q) s) plain-stays (pathSteps m partner p) e
@@ -250,21 +222,22 @@ module _ (m : Model) (k : ModelKept m) where
       from-steps (λ s. isOther (λ p. keyStep m p) s) key-stays (pathSteps m key c) e
   inner-stays dependent c h =
       constraint-form (pathSteps m dependent c)
-      (off (constraint16 m c) (constraintPath m (pathSteps m dependent c)) (λ q. simp (q, or-true)) (of-constraint m rule16 (k .kept16) c (h .holder-there)))
+      (off (constraint16 m c) (brokenInner m (pathSteps m dependent c)) (λ q. simp (q, or-true)) (of-constraint m rule16 (k .kept16) c (h .holder-there)))
   inner-stays principal c h =
       constraint-form (pathSteps m principal c)
-      (off (constraint16 m c) (constraintPath m (pathSteps m principal c)) (λ q. simp (q, or-true)) (of-constraint m rule16 (k .kept16) c (h .holder-there)))
+      (off (constraint16 m c) (brokenInner m (pathSteps m principal c)) (λ q. simp (q, or-true)) (of-constraint m rule16 (k .kept16) c (h .holder-there)))
   inner-stays binding b h =
-      form-stays (λ p. crosses m p) (properties (pathSteps m binding b))
-      (off (binding19 m b) (binding19abc m b) (λ q. rw q) (of-binding m rule19 (k .kept19) b (h .holder-there)))
+      names-stay (butLast (properties (pathSteps m binding b)))
+      (off (binding19 m b) (binding19c m b) (λ q. simp (q, or-true)) (of-binding m rule19 (k .kept19) b (h .holder-there)))
   inner-stays target b h =
       let e = off (binding19 m b) (binding19g m b) (λ q. simp (q, or-true)) (of-binding m rule19 (k .kept19) b (h .holder-there)) in
-      from-steps (λ s. isOther (λ p. targetStep m p) s) target-stays (pathSteps m target b) (target-form (pathSteps m target b) e)
+      let inner = some (λ s. isOther (λ p. targetStep m p) s) (butLast (pathSteps m target b)) in
+      from-steps (λ s. isOther (λ p. targetStep m p) s) target-stays (pathSteps m target b) (or-no inner _ e .0)
 
   module _ (f : ModelFacts m) where
     stays-integral : (b : Bool) (p : ℕ) → p < m .properties → (b ≡ true → structured m (m .typeRef p) ≡ true) → inner (stays m) b p ≡ true →
         inner (integral m) b p ≡ true
-    unfolding inner crosses integral complexStep containStep
+    unfolding inner nonContainment integral complexStep containStep
     stays-integral false p l s e = refl
     stays-integral true p l s e = go (m .navigation p) refl
       where

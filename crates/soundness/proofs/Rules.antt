@@ -1,15 +1,14 @@
 -- What the rules give, where they are unbroken at every place.
 use Prim.Native.Nat.{ℕ, zero, suc, _+_, _-_, _≤_, _<_, zero-le}
 use mathlib.Core.Path.{_≡_, refl, sym, subst}
-use mathlib.Core.Bool.{Bool, true, false, cond, not, _&&_, _||_, or-true}
+use mathlib.Core.Bool.{Bool, true, false, not, _&&_, _||_, or-true}
 use mathlib.Core.Logic.{⊎-elim}
 use native.Mathlib.Omega.{arith}
 use lib.Dec.{eqb, ltb, leb}
-use borrow.Author.Tests.{eqb-true, eqb-false, eq-eqb, ne-eqb, ltb-true, ltb-false, leb-true, le-leb, not-false}
+use borrow.Author.Tests.{eqb-true, eqb-false, eq-eqb, ne-eqb, ltb-true, leb-true, le-leb, not-false}
 use Rattle.csdl.specs.Search.{mark}
-use Rattle.csdl.specs.Tables.{Run}
 use Rattle.csdl.specs.Model.{Model, inRun}
-use Rattle.csdl.specs.Find.{ofKind, entity, complex, structured, ancestor, isNameOf, complexStep, containStep, integral, isAt}
+use Rattle.csdl.specs.Find.{ofKind, entity, complex, structured, ancestor, isNameOf, complexStep, containStep, integral, ancestorOrSelf}
 use Rattle.csdl.specs.Form.{run4cd}
 use Rattle.csdl.specs.Types.{type8, type8a}
 use Rattle.csdl.specs.Properties.{sameName, redeclares, property10, property10c, property11, property11a, property11b}
@@ -20,22 +19,11 @@ use Rattle.csdl.specs.Relations.Within.{directly, deeper}
 use Rattle.csdl.specs.Types.{rule8}
 use Rattle.csdl.specs.Properties.{rule10, rule11}
 use Rattle.csdl.specs.Accepted.{ModelKept, InstanceKept}
-use Rattle.csdl.proofs.Logic.{true-false, not-so, or-no, or-cases, and-cases, and-both, and-no, any-none, run-in}
+use Rattle.csdl.proofs.Logic.{true-false, or-no, or-cases, and-cases, and-both, and-no, any-none, run-in, off}
+use Rattle.csdl.proofs.Numbers.{run-fits, numbers-fit}
 use Rattle.csdl.proofs.Places.{of-type, of-property, of-node, of-slot, of-item}
-use Rattle.csdl.proofs.Relations.{closed, to-entity, slot-once, item-once, slot-of, rule26a-decides, rule26b-decides}
+use Rattle.csdl.proofs.Relations.{to-entity, slot-once, item-once, slot-of, rule26a-decides, rule26b-decides}
 use Rattle.soundness.proofs.Facts.{ModelFacts, InstanceFacts, Deep}
-
--- A part that makes the whole true is false where the whole is.
-pub off : (whole part : Bool) → (part ≡ true → whole ≡ true) → whole ≡ false → part ≡ false
-off whole part f h = not-so part (λ e. true-false whole (f e) h)
-
--- A run that is not past the end, and its numbers.
-pub run-fits : (count : ℕ) (r : Run) → run4cd count r ≡ false → r .first + r .count ≤ count
-run-fits count r h = go (eqb (r .count) 0) refl h
-  where
-    go : (b : Bool) → eqb (r .count) 0 ≡ b → cond (not b) (ltb count (r .first + r .count)) (not (eqb (r .first) 0)) ≡ false → r .first + r .count ≤ count
-    go true e f = let c : r .count ≡ 0 = eqb-true (r .count) 0 e in let d : r .first ≡ 0 = eqb-true (r .first) 0 (not-false (eqb (r .first) 0) f) in omega arith
-    go false e f = ltb-false count (r .first + r .count) f
 
 -- An entity type is structured; a structured type that is no entity type is complex.
 entity-structured : (m : Model) (x : ℕ) → entity m x ≡ true → structured m x ≡ true
@@ -64,10 +52,8 @@ module _ (m : Model) (k : ModelKept m) where
   unfolding type8
   kind-kept t u l e =
       let a = off (type8 m t) (type8a m t) (λ q. rw q) (of-type m rule8 (k .kept8) t l) in
-      let n : not (eqb (m .base t) 0) ≡ true = rw (ne-eqb (m .base t) 0 (λ z. omega arith)) in
-      let o : m .base t - 1 ≡ u = omega arith in
-      let f = not-false (eqb (m .kind (m .base t - 1)) (m .kind t)) (and-no (not (eqb (m .base t) 0)) (not (eqb (m .kind (m .base t - 1)) (m .kind t))) a n) in
-      sym (rw o at (eqb-true (m .kind (m .base t - 1)) (m .kind t) f))
+      let f = not-false (eqb (m .kind u) (m .kind t)) (rw e at a) in
+      sym (eqb-true (m .kind u) (m .kind t) f)
 
   complex-kept : (p : ℕ) → p < m .properties → m .navigation p ≡ false → structured m (m .typeRef p) ≡ true → complex m (m .typeRef p) ≡ true
   unfolding property10
@@ -89,7 +75,7 @@ module _ (m : Model) (k : ModelKept m) where
   pub model-facts : ((t : ℕ) → m .types ≤ t → m .base t ≡ 0) → ModelFacts m
   model-facts past =
       record {
-        base-small = closed m (k .kept4);
+        base-small = numbers-fit m (k .kept4) .base-there;
         base-none = past;
         base-kind = kind-kept;
         navigates = λ p l n. entity-structured m (m .typeRef p) (to-entity m p (of-property m rule10 (k .kept10) p l) n);
@@ -189,7 +175,7 @@ module _ (m : Model) (i : Instance) (f : ModelFacts m) (k : InstanceKept m i) (s
       let c = not-false (carriesNode m i (m .typeRef p) n) e in
       let x = ltb (i .itemHandle n) (i .nodes) in
       let y = eqb (i .itemRef n) (i .nodeType (i .itemHandle n)) in
-      let d = and-cases x y (and-cases (x && y) (isAt m (m .typeRef p) (i .itemRef n)) c .0) .0 in
+      let d = and-cases x y (and-cases (x && y) (ancestorOrSelf m (m .typeRef p) (i .itemRef n)) c .0) .0 in
       rw (← h .number) (ltb-true (i .itemHandle n) (i .nodes) d)
 
   node-kept : (w : ℕ) → w < i .nodes → (node26a m i w ≡ false) × (node26b m i w ≡ false)

@@ -3,6 +3,7 @@ use Prim.Native.Nat.{ℕ, suc, _≤_, _<_}
 use mathlib.Core.Path.{_≡_, refl, sym, ap, _∙_}
 use mathlib.Core.List.{List, [], _∷_}
 use mathlib.Core.Bool.{Bool, true, false, cond, not, _&&_}
+use mathlib.Core.Logic.{inl, inr}
 use native.Mathlib.Omega.{arith}
 use lib.Dec.{eqb, ltb, eqb·suc-zero}
 use borrow.Author.Tests.{eqb-true, eq-eqb, ltb-true, not-false}
@@ -10,7 +11,7 @@ use Rattle.packed.specs.Bytes.{same}
 use Rattle.packed.proofs.Laws.{same-sound, same-refl}
 use Rattle.csdl.specs.Search.{mark, tab, all}
 use Rattle.csdl.specs.Model.{Model, text, inRun}
-use Rattle.csdl.specs.Find.{isAt, structured, find, isNameOf}
+use Rattle.csdl.specs.Find.{ancestorOrSelf, structured, find, isNameOf}
 use Rattle.csdl.specs.Path.{Segment}
 use Rattle.csdl.specs.Path.Segment.{name, cast}
 use Rattle.csdl.specs.Instance.{Instance}
@@ -18,6 +19,7 @@ use Rattle.csdl.specs.Conforms.{slotsOf, isNull, carriesNode, item25of}
 use Rattle.csdl.specs.Walk.{Item, Origin, slotNamed, itemAt, contents, opening, after, passes, nextStage, walked, runs}
 use Rattle.csdl.specs.Walk.Item.{null, held}
 use Rattle.csdl.specs.Walk.Origin.{at-slot, at-cast}
+use Rattle.csdl.specs.Accepted.{NullIn}
 use Rattle.csdl.proofs.Logic.{and-cases, and-both, true-false, in-run, run-in, first-found, first-of, term-le, some-found}
 use Rattle.soundness.specs.Lists.{All}
 use Rattle.soundness.specs.Lists.All.{none, both}
@@ -29,10 +31,10 @@ use Rattle.soundness.proofs.Find.At.{here}
 use Rattle.soundness.proofs.Ways.{Way}
 use Rattle.soundness.proofs.Ways.Way.{end, by-name, by-cast}
 
--- A null is right where it came in: at a slot of a nullable property, or at a cast that a node is not at.
+-- A null is right where it came in: at a slot of a nullable property that is null or holds a null, or at a cast that a node is not at.
 unfoldable pub Right : Model → Instance → Origin → Type 0
-Right m i (at-slot s) = (s < i .slots) × (m .nullable (i .slotProperty s) ≡ true)
-Right m i (at-cast c v) = (v < i .nodes) × (isAt m c (i .nodeType v) ≡ false)
+Right m i (at-slot s) = (s < i .slots) × (m .nullable (i .slotProperty s) ≡ true) × NullIn i s
+Right m i (at-cast c v) = (v < i .nodes) × (ancestorOrSelf m c (i .nodeType v) ≡ false)
 
 -- An item fits type reference u.
 unfoldable pub Fits : Model → Instance → ℕ → Item → Type 0
@@ -98,7 +100,7 @@ module _ (m : Model) (i : Instance) (k : ModelFacts m) (j : InstanceFacts m i) w
 
   -- What stands in a slot fits its property's type.
   pub item-typed : (s n : ℕ) → s < i .slots → inRun (i .slotItems s) n ≡ true → Fits m i (m .typeRef (i .slotProperty s)) (itemAt i s n)
-  unfolding Fits Right itemAt item25of carriesNode
+  unfolding Fits Right NullIn itemAt item25of carriesNode
   item-typed s n l e = go (isNull i n) refl (j .item-fits s n l e)
     where
       p : ℕ
@@ -114,7 +116,7 @@ module _ (m : Model) (i : Instance) (k : ModelFacts m) (j : InstanceFacts m i) w
           At m (m .typeRef p) r × (structured m r ≡ true → NodeOf i r w)
       sort true f h =
           let a = not-false (carriesNode m i (m .typeRef p) n) h in
-          let c = and-cases (ltb w (i .nodes) && eqb r (i .nodeType w)) (isAt m (m .typeRef p) r) a in
+          let c = and-cases (ltb w (i .nodes) && eqb r (i .nodeType w)) (ancestorOrSelf m (m .typeRef p) r) a in
           let d = and-cases (ltb w (i .nodes)) (eqb r (i .nodeType w)) (c .0) in
           (at-sound m (m .typeRef p) r (c .1), λ g. (ltb-true w (i .nodes) (d .0), sym (eqb-true r (i .nodeType w) (d .1))))
       sort false f h = let q : r ≡ m .typeRef p = eqb-true r (m .typeRef p) (not-false (eqb r (m .typeRef p)) h) in
@@ -124,11 +126,11 @@ module _ (m : Model) (i : Instance) (k : ModelFacts m) (j : InstanceFacts m i) w
           cond b (not (m .collection p && m .nullable p))
           (cond (structured m (m .typeRef p)) (not (carriesNode m i (m .typeRef p) n)) (not (eqb r (m .typeRef p)))) ≡ false →
           Fits m i (m .typeRef p) (cond b (null (at-slot s)) (held r w))
-      go true f h = (l, and-cases (m .collection p) (m .nullable p) (not-false (m .collection p && m .nullable p) h) .1)
+      go true f h = (l, and-cases (m .collection p) (m .nullable p) (not-false (m .collection p && m .nullable p) h) .1, inr (n, e, f))
       go false f h = sort (structured m (m .typeRef p)) refl h
 
   pub contents-typed : (s : ℕ) → s < i .slots → All (Fits m i (m .typeRef (i .slotProperty s))) (contents i s)
-  unfolding Fits Right contents
+  unfolding Fits Right NullIn contents
   contents-typed s l = go (eqb (i .state s) 0) refl
     where
       p : ℕ
@@ -136,7 +138,7 @@ module _ (m : Model) (i : Instance) (k : ModelFacts m) (j : InstanceFacts m i) w
 
       go : (b : Bool) → eqb (i .state s) 0 ≡ b →
           All (Fits m i (m .typeRef p)) (cond b (null (at-slot s) ∷ []) (tab (λ n. itemAt i s n) (i .slotItems s .first) (i .slotItems s .count)))
-      go true e = both {x = null (at-slot s)} (l, j .null-fits s l (eqb-true (i .state s) 0 e)) none
+      go true e = both {x = null (at-slot s)} (l, j .null-fits s l (eqb-true (i .state s) 0 e), inl (eqb-true (i .state s) 0 e)) none
       go false e = all-tab (Fits m i (m .typeRef p)) (λ n. itemAt i s n) (i .slotItems s .first) (i .slotItems s .count)
           (λ n a b. item-typed s n l (in-run (i .slotItems s) n a b))
 
@@ -155,14 +157,14 @@ module _ (m : Model) (i : Instance) (k : ModelFacts m) (j : InstanceFacts m i) w
             (λ y. fits-up m i (m .typeRef p) (m .typeRef (i .slotProperty (o .slot))) (o .refines .type-at) y) (contents-typed (o .slot) (o .slot-small)),
       )
 
-  cast-typed : (c t : ℕ) → structured m c ≡ true → isAt m t c ≡ true → (x : Item) → Fits m i t x →
+  cast-typed : (c t : ℕ) → structured m c ≡ true → ancestorOrSelf m t c ≡ true → (x : Item) → Fits m i t x →
       (passes m i (cast c) x ≡ true) × All (Fits m i c) (after m i (cast c) x)
   unfolding Fits Right passes after
   cast-typed c t sc a (null o) f = (refl, both f none)
   cast-typed c t sc a (held r v) f =
-      let sr = structured-at m k t r (f .0) (structured-up m k t c (at-sound m t c a) sc) in rw sr (refl, both (go sr (isAt m c r) refl) none)
+      let sr = structured-at m k t r (f .0) (structured-up m k t c (at-sound m t c a) sc) in rw sr (refl, both (go sr (ancestorOrSelf m c r) refl) none)
     where
-      go : structured m r ≡ true → (b : Bool) → isAt m c r ≡ b → Fits m i c (cond b (held r v) (null (at-cast c v)))
+      go : structured m r ≡ true → (b : Bool) → ancestorOrSelf m c r ≡ b → Fits m i c (cond b (held r v) (null (at-cast c v)))
       go sr true e = (at-sound m c r e, f .1)
       go sr false e = let n = f .1 sr in (n .0, rw (n .1) e)
 

@@ -1,14 +1,14 @@
 -- A path that resolves, as the proofs follow it: segment by segment, with a test of each name.
 use Prim.Native.Nat.{ℕ, suc, _-_, _<_}
 use mathlib.Core.Path.{_≡_, refl}
-use mathlib.Core.List.{List, [], _∷_}
+use mathlib.Core.List.{List, [], _∷_, _++_}
 use mathlib.Core.Bool.{Bool, true, false, false≢true, not, _&&_}
 use native.Mathlib.Omega.{arith}
 use lib.Dec.{eqb}
 use borrow.Author.Tests.{eqb-false, not-true}
 use Rattle.csdl.specs.Search.{all, butLast}
 use Rattle.csdl.specs.Model.{Model}
-use Rattle.csdl.specs.Find.{structured, isAt, find, integral}
+use Rattle.csdl.specs.Find.{structured, ancestorOrSelf, find, integral}
 use Rattle.csdl.specs.Path.{Segment, resolvesAt, movesTo, stepAt, alongAll, alongEnd, along, resolves, endOf, stepsOf, properties}
 use Rattle.csdl.specs.Path.Segment.{name, cast}
 use Rattle.csdl.proofs.Logic.{and-cases}
@@ -28,7 +28,7 @@ pub data Way (m : Model) (ok : Bool → ℕ → Bool) : ℕ → List Segment →
   by-name : {t u p : ℕ} {nm : List ℕ} {gs : List Segment} →
       structured m t ≡ true → find m nm t ≡ suc p → ok (hasName gs) p ≡ true → Way m ok (m .typeRef p) gs u → Way m ok t (name nm ∷ gs) u
   by-cast : {t c u : ℕ} {gs : List Segment} →
-      structured m c ≡ true → isAt m t c ≡ true → Way m ok c gs u → Way m ok t (cast c ∷ gs) u
+      structured m c ≡ true → ancestorOrSelf m t c ≡ true → Way m ok c gs u → Way m ok t (cast c ∷ gs) u
 
 -- A test of each name that another follows.
 unfoldable pub inner : (ℕ → Bool) → Bool → ℕ → Bool
@@ -89,8 +89,8 @@ way m ok t (name nm ∷ gs) r s =
     let c = on-cons ok p m (m .typeRef p) gs s in
     by-name (b .0) (suc-of (find m nm t) (b .1)) (c .0) (way m ok (m .typeRef p) gs (a .1) (c .1))
 way m ok t (cast c ∷ gs) r s =
-    let a = and-cases (structured m c && isAt m t c) (resolves m c gs) r in
-    let b = and-cases (structured m c) (isAt m t c) (a .0) in
+    let a = and-cases (structured m c && ancestorOrSelf m t c) (resolves m c gs) r in
+    let b = and-cases (structured m c) (ancestorOrSelf m t c) (a .0) in
     by-cast (b .0) (b .1) (way m ok c gs (a .1) s)
 
 -- All names pass; all names but the last pass.
@@ -125,3 +125,9 @@ module _ (m : Model) (k : ModelFacts m) where
   way-map f end = end
   way-map f (by-name {t} {p = p} {nm} {gs} st e o w) = by-name st e (f (hasName gs) p (find-sound m nm t p e .0) (way-structured w) o) (way-map f w)
   way-map f (by-cast sc a w) = by-cast sc a (way-map f w)
+
+-- The part of a way before some segment, whatever was asked of its names.
+pub way-before : {m : Model} {ok : Bool → ℕ → Bool} {t u : ℕ} (a b : List Segment) → Way m ok t (a ++ b) u → (e : ℕ) × Way m (λ x p. true) t a e
+way-before {t = t} [] b w = (t, end)
+way-before (g ∷ a) b (by-name st e o w) = let z = way-before a b w in (z .0, by-name st e refl (z .1))
+way-before (g ∷ a) b (by-cast sc e w) = let z = way-before a b w in (z .0, by-cast sc e (z .1))

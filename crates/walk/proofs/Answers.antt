@@ -1,5 +1,5 @@
 -- The answer of a walk and what it leaves in the buffer, case by case, by the definitions and by demand 3.
-use Prim.Native.Nat.{ℕ, _+_, _*_, _/_, _≤_, _<_}
+use Prim.Native.Nat.{ℕ, _+_, _*_, _/_, _≤_, _<_, zero-le}
 use mathlib.Core.Path.{_≡_, refl, sym, ap, _∙_}
 use mathlib.Core.List.{List, [], _∷_, _++_}
 use mathlib.Core.Bool.{Bool, true, false, false≢true, cond, not}
@@ -12,8 +12,8 @@ use lib.Dec.{ltb}
 use borrow.Author.Tests.{ltb-true, ltb-false, not-false}
 use Rattle.csdl.specs.Search.{flat}
 use Rattle.csdl.specs.Model.{Model}
-use Rattle.csdl.specs.Find.{isAt}
-use Rattle.csdl.specs.Image.{modelIn, image1}
+use Rattle.csdl.specs.Find.{ancestorOrSelf}
+use Rattle.csdl.specs.Image.{modelIn}
 use Rattle.csdl.specs.Path.{pathOf, startOf}
 use Rattle.csdl.specs.Instance.{Instance, instanceIn, image20, itemBytes}
 use Rattle.csdl.specs.Conforms.{instanceAnswer}
@@ -25,12 +25,17 @@ use Rattle.csdl.specs.Walk.Chosen.{none, chosen}
 use Rattle.csdl.specs.Accepted.{InstancePasses}
 use Rattle.csdl.proofs.Logic.{or-no}
 use Rattle.csdl.proofs.Verdicts.{instance-accepts, instance-refuses, instance-then-refuses}
-use Rattle.nodes.proofs.Sizes.{sized}
-use Rattle.segments.specs.Kinds.{kindOf}
+use Rattle.model_image.specs.Sized.{Sized}
+use Rattle.model_image.proofs.Parts.{layout}
+use Rattle.instance_image.proofs.Sizes.{sized}
+use Rattle.path_kinds.specs.Kinds.{kindOf}
 use Rattle.soundness.proofs.Counts.{bytes-length}
-use Rattle.soundness.proofs.Demands.{results-are, opened-are, not-refused, opened-at-most, results-at-most, results-fit-buffer}
-use Rattle.choice.specs.Chosen.{choiceOf}
+use Rattle.soundness.proofs.Demands.{results-are, opened-are, not-refused, opened-at-most, results-at-most, results-fit-buffer, premises-of-walk}
+use Rattle.walk_path.specs.declared.Choice.{Choice}
+use Rattle.walk_path.specs.Chosen.{choiceOf, choiceFor}
+use Rattle.walk_path.proofs.Choices.{choice-back}
 use Rattle.walk.specs.Along.{bytesAlong, openedAlong}
+use Rattle.walk.specs.Opened.{openedOf}
 
 is-chosen : (kind holder : ℕ) → walk27 (choiceOf kind holder) ≡ false → choiceOf kind holder ≡ chosen (kindOf kind) holder
 unfolding choiceOf
@@ -75,8 +80,8 @@ module _ (model image : List ℕ) (place n v : ℕ) (buffer : List ℕ) where
     passes : InstancePasses model image
     passes = instance-accepts model image .0 conforms
 
-    pub keeps-1 : image1 model ≡ false
-    keeps-1 = passes .model-passes .kept1
+    pub model-sized : Sized model
+    model-sized = layout model (passes .model-passes .kept1)
 
     pub keeps-20 : image20 image ≡ false
     keeps-20 = passes .kept20
@@ -87,14 +92,23 @@ module _ (model image : List ℕ) (place n v : ℕ) (buffer : List ℕ) where
         refusing rule 0 (instance-then-refuses model image (verdict 0 stages counts) rule 0 .1 (inr (passes .model-passes, inr (passes, e))))
 
     -- Rules 27, 28 and 29, in that order.
-    module _ (kind holder : ℕ) (choice : choiceOf kind holder ≡ walkPath model place n) where
+    module _ (c : Choice) (choice : c ≡ choiceFor (walkPath model place n)) where
+      abbrev kind : ℕ
+      kind = c .kind
+
+      abbrev holder : ℕ
+      holder = c .holder
+
+      chosen-is : choiceOf kind holder ≡ walkPath model place n
+      chosen-is = rw choice (choice-back (walkPath model place n))
+
       pub refused-27 : walk27 (choiceOf kind holder) ≡ true → Owed (refused 27 0) buffer
       unfolding verdict
-      refused-27 e = let z : walk27 (walkPath model place n) ≡ true = rw (← choice) e in refused-by 27 (rw z)
+      refused-27 e = let z : walk27 (walkPath model place n) ≡ true = rw (← chosen-is) e in refused-by 27 (rw z)
 
       module _ (a : walk27 (choiceOf kind holder) ≡ false) where
         path-is : walkPath model place n ≡ chosen (kindOf kind) holder
-        path-is = sym choice ∙ is-chosen kind holder a
+        path-is = sym chosen-is ∙ is-chosen kind holder a
 
         pub refused-28 : walk28 m i (startOf m (kindOf kind) holder) v ≡ true → Owed (refused 28 0) buffer
         unfolding verdict
@@ -109,30 +123,30 @@ module _ (model image : List ℕ) (place n v : ℕ) (buffer : List ℕ) where
           unfolding walk28
           there =
               ltb-true v (i .nodes)
-              (not-false (ltb v (i .nodes)) (or-no (not (ltb v (i .nodes))) (not (isAt m (startOf m (kindOf kind) holder) (i .nodeType v))) b .0))
+              (not-false (ltb v (i .nodes)) (or-no (not (ltb v (i .nodes))) (not (ancestorOrSelf m (startOf m (kindOf kind) holder) (i .nodeType v))) b .0))
 
-          fitting : isAt m (startOf m (kindOf kind) holder) (i .nodeType v) ≡ true
+          fitting : ancestorOrSelf m (startOf m (kindOf kind) holder) (i .nodeType v) ≡ true
           unfolding walk28
           fitting =
-              not-false (isAt m (startOf m (kindOf kind) holder) (i .nodeType v))
-              (or-no (not (ltb v (i .nodes))) (not (isAt m (startOf m (kindOf kind) holder) (i .nodeType v))) b .1)
+              not-false (ancestorOrSelf m (startOf m (kindOf kind) holder) (i .nodeType v))
+              (or-no (not (ltb v (i .nodes))) (not (ancestorOrSelf m (startOf m (kindOf kind) holder) (i .nodeType v))) b .1)
 
           pub start-small : v < 256
           start-small = let z = sized image keeps-20 in omega (arith, there, z .nodes-count, z .nodes-most)
 
           -- Else the walk: its results fit, its counts are small, and it answers them.
-          module _ (d : walk29 i buffer ≡ false) (first count : ℕ) (f : first ≡ pathOf m (kindOf kind) holder .first) (c : count ≡ pathOf m (kindOf kind) holder .count) where
+          module _ (d : walk29 i buffer ≡ false) (first count : ℕ) (f : first ≡ pathOf m (kindOf kind) holder .first) (g : count ≡ pathOf m (kindOf kind) holder .count) where
             room : itemBytes * (1 + i .slots + i .items) ≤ length buffer
             unfolding walk29
             room = ltb-false (length buffer) (itemBytes * (1 + i .slots + i .items)) d
 
             bytes-are : bytesAlong model image first count v ≡ resultBytes model image place n v
             unfolding bytesAlong resultBytes
-            bytes-are = rw (f, c) (ap (flat (λ x. bytesOfItem x)) (sym (results-are model image conforms place n (kindOf kind) holder path-is v there fitting)))
+            bytes-are = rw (f, g) (ap (flat (λ x. bytesOfItem x)) (sym (results-are model image conforms place n (kindOf kind) holder path-is v there fitting)))
 
             slots-are : openedAlong model image first count v ≡ walkOpened model image place n v
             unfolding openedAlong
-            slots-are = rw (f, c) (sym (opened-are model image conforms place n (kindOf kind) holder path-is v there fitting))
+            slots-are = rw (f, g) (sym (opened-are model image conforms place n (kindOf kind) holder path-is v there fitting))
 
             pub bytes-fit : length (bytesAlong model image first count v) ≤ length buffer
             bytes-fit =
@@ -183,3 +197,11 @@ module _ (model image : List ℕ) (place n v : ℕ) (buffer : List ℕ) where
                 let s : sets buffer 0 b ≡ b ++ drop (length b) buffer =
                 sets-eq b buffer 0 (omega (arith, bytes-fit)) ∙ ap (λ (k : ℕ). b ++ drop k buffer) (zero-add (length b)) in
                 (rw (e, o) (sym w), rw w (x ∙ s ∙ ap (λ (l : List ℕ). l ++ drop (length l) buffer) bytes-are))
+
+-- At most as many slots are opened as the instance has, whatever the walk answers.
+pub few-slots : (model image : List ℕ) (place n v : ℕ) (buffer : List ℕ) (a : Answer) → a ≡ walkAnswer model image place n v buffer →
+    openedOf a ≤ instanceIn image .slots
+few-slots model image place n v buffer (refused rule at) e = zero-le
+few-slots model image place n v buffer (accepted values) e =
+    let p = premises-of-walk model image place n v buffer values (sym e) in
+    rw (p .reported) (opened-at-most model image (p .conforms) place n (p .kind) (p .holder) (p .path) v (p .there) (p .fitting))

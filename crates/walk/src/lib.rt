@@ -1,22 +1,67 @@
 // The walk of a path of the model through an instance.
-pub mod images;
-
 ghost use mathlib.Core.Path.{_≡_};
+ghost use mathlib.Core.Bool.{false};
 ghost use mathlib.Core.List.{[]};
+ghost use Prim.Native.Nat.{_+_, _≤_, _<_};
+ghost use lib.ListN.{length};
+ghost use lib.Seq.{sets};
 ghost use Rattle.csdl.specs.Conforms.{instanceAnswer};
+ghost use Rattle.csdl.specs.Instance.{instanceIn, image20};
 ghost use Rattle.csdl.specs.Verdict.{walkMeans};
 ghost use Rattle.csdl.specs.Verdict.Answer.{accepted};
 ghost use Rattle.csdl.specs.Walk.{walkAnswer, walkBuffer};
-use crate::images::choice_in;
-use crate::images::no_start;
-use crate::images::path_in;
-use crate::images::short_results;
-use crate::images::start_in;
-use crate::images::walk_along;
-use choice::walk_27;
-use conformance::check_instance;
+ghost use Rattle.model_image.specs.Laid.{Laid};
+ghost use Rattle.walk.specs.Along.{bytesAlong, openedAlong};
+ghost use Rattle.walk.specs.Opened.{openedOf};
 use csdl::InstanceAnswer;
 use csdl::WalkAnswer;
+use instance_check::check_instance;
+use instance_image::fields::node_type;
+use instance_image::tables::items_of;
+use instance_image::tables::nodes_of;
+use instance_image::tables::slots_of;
+use model_image::layout::Layout;
+use model_image::layout::layout_of;
+use walk_items::Done;
+use walk_items::Here;
+use walk_items::walk_from;
+use walk_path::choose;
+use walk_path::path_in;
+use walk_path::start_in;
+use walk_path::walk_27;
+use walk_path::walk_28;
+use walk_path::walk_29;
+
+// The walk along `count` segments from segment `first` on, from node v.
+fn walk_along(
+    model: &[u8],
+    at: Layout,
+    instance: &[u8],
+    first: u16,
+    count: u16,
+    v: u16,
+    results: &mut [u8],
+) -> Done
+    requires { ⌜ Laid (now model) at × (image20 (now instance) ≡ false) × (first + count < 65536) ⌝ }
+    requires { ⌜ length (bytesAlong (now model) (now instance) first count v) ≤ length (now results) ⌝ }
+    requires { ⌜ length (openedAlong (now model) (now instance) first count v) < 65536 ⌝ }
+    ensures { λ r. ⌜ now (results .exit) ≡ sets (now (results .entry)) 0 (bytesAlong (now (model .entry)) (now (instance .entry)) first count v) ⌝ }
+    ensures { λ r. ⌜ r .end ≡ length (bytesAlong (now (model .entry)) (now (instance .entry)) first count v) ⌝ }
+    ensures { λ r. ⌜ r .opened ≡ length (openedAlong (now (model .entry)) (now (instance .entry)) first count v) ⌝ }
+{
+    let nodes = nodes_of(instance);
+    let slots = slots_of(instance);
+    let items = items_of(instance);
+    let here = Here {
+        k: first,
+        left: count,
+        t: node_type(nodes, v) as u8,
+        v: v as u32,
+        ancestors: 0,
+        end: 0,
+    };
+    walk_from(model, at, nodes, slots, items, here, results)
+}
 
 // The walk through an instance that conforms to its model.
 fn walk_conforming(
@@ -31,23 +76,30 @@ fn walk_conforming(
     ensures { λ r. ⌜ walkMeans r ≡ walkAnswer (now (model .entry)) (now (instance .entry)) place path node (now (results .entry)) ⌝ }
     ensures { λ r. ⌜ now (results .exit) ≡ walkBuffer (now (model .entry)) (now (instance .entry)) place path node (now (results .entry)) ⌝ }
 {
-    let c = choice_in(model, place, path);
-    let kind = c.kind;
-    let holder = c.holder;
-    let t = start_in(model, kind, holder);
-    let no_path = walk_27(kind, holder);
-    let bad_start = no_start(model, instance, t, node);
+    let at = layout_of(model);
+    let c = choose(model, at, place, path);
+    let t = start_in(model, at, c.kind, c.holder);
+    let no_path = walk_27(c.kind, c.holder);
+    let bad_start = walk_28(model, at, nodes_of(instance), t, node);
     if no_path {
         return WalkAnswer::Refused { rule: 27, place: 0 };
     }
     if bad_start {
         return WalkAnswer::Refused { rule: 28, place: 0 };
     }
-    if short_results(instance, results) {
+    if walk_29(slots_of(instance), items_of(instance), results) {
         return WalkAnswer::Refused { rule: 29, place: 0 };
     }
-    let run = path_in(model, kind, holder);
-    let d = walk_along(model, instance, run.first, run.count, node as u16, results);
+    let run = path_in(model, at, c.kind, c.holder);
+    let d = walk_along(
+        model,
+        at,
+        instance,
+        run.first,
+        run.count,
+        node as u16,
+        results,
+    );
     WalkAnswer::Walked {
         results: (d.end / 4) as u16,
         opened: d.opened,
@@ -66,6 +118,7 @@ pub fn walk(
 ) -> WalkAnswer
     ensures { λ r. ⌜ walkMeans r ≡ walkAnswer (now (model .entry)) (now (instance .entry)) place path node (now (results .entry)) ⌝ }
     ensures { λ r. ⌜ now (results .exit) ≡ walkBuffer (now (model .entry)) (now (instance .entry)) place path node (now (results .entry)) ⌝ }
+    ensures { λ r. ⌜ openedOf (walkMeans r) ≤ instanceIn (now (instance .entry)) .slots ⌝ }
 {
     match check_instance(model, instance) {
         InstanceAnswer::Conforms => walk_conforming(model, instance, place, path, node, results),

@@ -1,5 +1,6 @@
 //! The main checker's C interface.
 
+use crate::fence::{Fenced, Flush};
 use crate::generate::cases::{Case, Outcome};
 
 extern "C" {
@@ -89,56 +90,50 @@ pub fn nothing_lent() -> [u64; 3] {
     }
 }
 
-/// Bytes before and after the lent buffer that must stay.
-const GUARD: usize = 32;
-const GUARD_BYTE: u8 = 0x5a;
-
-/// What the library answers, or how it touched bytes it was not lent to write.
-pub fn portal(case: &Case) -> Result<Outcome, &'static str> {
-    let lent = match case {
-        Case::Model { buffer, .. } | Case::Walk { buffer, .. } => buffer.as_slice(),
-        Case::Instance { .. } => &[],
-    };
-    let mut guarded = vec![GUARD_BYTE; GUARD];
-    guarded.extend(lent);
-    guarded.resize(lent.len() + 2 * GUARD, GUARD_BYTE);
-    let end = GUARD + lent.len();
-    let untouched = case.clone();
-    let packed = call(case, &mut guarded[GUARD..end]);
-    if images(case) != images(&untouched) {
-        return Err("an image was written to");
-    }
-    let around = guarded[..GUARD].iter().chain(&guarded[end..]);
-    if around.copied().any(|b| b != GUARD_BYTE) {
-        return Err("bytes around the buffer were written to");
-    }
-    Ok(Outcome {
-        packed,
-        buffer: guarded[GUARD..end].to_vec(),
-    })
-}
-
-fn call(case: &Case, buffer: &mut [u8]) -> u64 {
-    match case {
-        Case::Model { image, .. } => check_model(image, buffer),
-        Case::Instance { model, instance } => check_instance(model, instance),
+/// The call of a case on images and a buffer in place of its own.
+pub fn call(case: &Case, (model, instance): (&[u8], &[u8]), buffer: &mut [u8]) -> u64 {
+    match *case {
+        Case::Model { .. } => check_model(model, buffer),
+        Case::Instance { .. } => check_instance(model, instance),
         Case::Walk {
-            model,
-            instance,
-            place,
-            path,
-            node,
-            ..
-        } => walk(model, instance, *place, *path, *node, buffer),
+            place, path, node, ..
+        } => walk(model, instance, place, path, node, buffer),
     }
 }
 
-fn images(case: &Case) -> (&[u8], &[u8]) {
-    match case {
-        Case::Model { image, .. } => (image, &[]),
-        Case::Instance { model, instance }
-        | Case::Walk {
-            model, instance, ..
-        } => (model, instance),
+/// The images of a case, which can only be read, between unreadable pages.
+pub struct Images {
+    model: Fenced,
+    instance: Fenced,
+}
+
+impl Images {
+    pub fn of(case: &Case, flush: Flush) -> Images {
+        let (model, instance) = case.images();
+        Images {
+            model: Fenced::image(model, flush),
+            instance: Fenced::image(instance, flush),
+        }
     }
+
+    /// What the library answers to a case on these images, and what it leaves in
+    /// the buffer, or that it wrote beside it. Where it reads or writes past
+    /// the pages, the process ends by a signal.
+    pub fn call(&self, case: &Case, buffer: &[u8], flush: Flush) -> Result<Outcome, &'static str> {
+        let mut lent = Fenced::buffer(buffer, flush);
+        let images = (self.model.bytes(), self.instance.bytes());
+        let packed = call(case, images, lent.bytes_mut());
+        if !lent.marks_stand() {
+            return Err("bytes beside the buffer were written to");
+        }
+        Ok(Outcome {
+            packed,
+            buffer: lent.bytes().to_vec(),
+        })
+    }
+}
+
+/// What the library answers to a case.
+pub fn portal(case: &Case) -> Result<Outcome, &'static str> {
+    Images::of(case, Flush::End).call(case, case.buffer(), Flush::End)
 }

@@ -4,6 +4,9 @@
 
 pub mod checker;
 pub mod generate;
+pub mod inputs;
 
+#[cfg(feature = "portal")]
+pub mod fence;
 #[cfg(feature = "portal")]
 pub mod ffi;

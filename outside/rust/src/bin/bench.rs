@@ -1,167 +1,272 @@
-//! Times the library and this crate's checker on the same inputs.
+//! Counts the instructions of one call of the library and of one call of this
+//! crate's checker on each input of `outside::inputs`, with callgrind, in one
+//! run. Without arguments prints them beside wall times; with `--test` fails if
+//! a count is above its limit.
 
+use std::fmt::Display;
 use std::hint::black_box;
+use std::path::Path;
+use std::process::{Command, ExitCode, Stdio};
 use std::time::{Duration, Instant};
 
-use outside::checker::{self, Answer};
 use outside::ffi;
-use outside::generate::describe::Layout;
-use outside::generate::fixed::{chain, middle, tours, worked_example};
-use outside::generate::random::Random;
+use outside::generate::cases::Case;
+use outside::inputs::{Row, GROWTH_GOAL, GROWTH_LIMIT, LARGEST, ROWS, TENTH};
 
-/// Each number in the table is the best of some rounds of this length.
-const ROUND: Duration = Duration::from_millis(40);
+/// Each time is the best of some rounds of this length.
+const ROUND: Duration = Duration::from_millis(20);
 const ROUNDS: usize = 5;
 
-fn main() {
-    println!(
-        "{:44} {:>12} {:>12} {:>8}",
-        "input", "portal ns", "outside ns", "ratio"
-    );
-    let example = worked_example().encode(&Layout::plain()).to_bytes();
-    model_row("worked example, 167 bytes", &example);
-    let middle = middle().encode(&Layout::plain()).to_bytes();
-    model_row(&format!("middle model, {} bytes", middle.len()), &middle);
-    let largest = chain(64).to_bytes();
-    model_row(&format!("largest model, {} bytes", largest.len()), &largest);
-    instance_rows(&example);
-    refused_rows();
-    growth();
+fn main() -> ExitCode {
+    let arguments: Vec<String> = std::env::args().skip(1).collect();
+    let done = match arguments.iter().map(String::as_str).collect::<Vec<_>>()[..] {
+        [] => agree().and_then(|()| table()),
+        ["--test"] => agree().and_then(|()| test()),
+        ["--calls"] => calls(),
+        _ => Err("bench [--test]".into()),
+    };
+    match done {
+        Ok(()) => ExitCode::SUCCESS,
+        Err(message) => {
+            println!("{message}");
+            ExitCode::FAILURE
+        }
+    }
 }
 
-/// Nanoseconds a call for two calls, their rounds taken in turns.
-fn times(mut portal: impl FnMut(), mut outside: impl FnMut()) -> (f64, f64) {
+/// What callgrind counts, known to it by this name. It goes on after the call,
+/// so that it is not left by a jump.
+#[no_mangle]
+#[inline(never)]
+pub extern "C" fn bench_counted(by: By, case: &Case, buffer: &mut Vec<u8>) -> u64 {
+    black_box(by.call(case, buffer))
+}
+
+#[derive(Clone, Copy)]
+#[repr(C)]
+pub enum By {
+    Library,
+    Unrelated,
+}
+
+impl By {
+    #[inline(never)]
+    fn call(self, case: &Case, buffer: &mut [u8]) -> u64 {
+        match self {
+            By::Library => ffi::call(case, case.images(), buffer),
+            By::Unrelated => case.call_reference(buffer).packed(),
+        }
+    }
+}
+
+/// Both must give the same answer and leave the same bytes.
+fn agree() -> Result<(), String> {
+    for row in &ROWS {
+        let case = (row.make)();
+        if ffi::portal(&case) != Ok(case.reference().1) {
+            return Err(format!("bench: {}: the answers differ", row.name));
+        }
+    }
+    Ok(())
+}
+
+/// What runs under callgrind: each input once by the library and once by this
+/// crate's checker, after two calls that are not counted, in which the loader
+/// finds the functions that it had left open.
+fn calls() -> Result<(), String> {
+    let first = (ROWS[0].make)();
+    for by in [By::Library, By::Unrelated] {
+        black_box(by.call(&first, &mut first.buffer().to_vec()));
+    }
+    for row in &ROWS {
+        let case = (row.make)();
+        for by in [By::Library, By::Unrelated] {
+            black_box(bench_counted(
+                by,
+                black_box(&case),
+                &mut case.buffer().to_vec(),
+            ));
+        }
+    }
+    Ok(())
+}
+
+/// Instructions of the library and of this crate's checker, input by input;
+/// nothing where valgrind is not there.
+fn instructions() -> Result<Option<Vec<(f64, f64)>>, String> {
+    let asked = Command::new("valgrind").arg("--version").output();
+    if !asked.is_ok_and(|output| output.status.success()) {
+        return Ok(None);
+    }
+    let file = std::env::temp_dir().join(format!("outside-bench-{}", std::process::id()));
+    let counted = count(&file);
+    // The file may not be there if valgrind failed.
+    let _ = std::fs::remove_file(&file);
+    counted.map(Some)
+}
+
+fn count(file: &Path) -> Result<Vec<(f64, f64)>, String> {
+    let program = std::env::current_exe().map_err(|e| said("the path of bench", e))?;
+    let output = Command::new("valgrind")
+        .args(["--tool=callgrind", "--combine-dumps=yes"])
+        .arg(format!("--callgrind-out-file={}", file.display()))
+        .args([
+            "--toggle-collect=bench_counted",
+            "--dump-after=bench_counted",
+        ])
+        .arg(program)
+        .arg("--calls")
+        .stdin(Stdio::null())
+        .output()
+        .map_err(|e| said("valgrind", e))?;
+    if !output.status.success() {
+        let text = [output.stdout, output.stderr].concat();
+        return Err(said("bench under valgrind", String::from_utf8_lossy(&text)));
+    }
+    let text = std::fs::read_to_string(file).map_err(|e| said("callgrind's file", e))?;
+    let counts: Vec<f64> = text
+        .lines()
+        .filter_map(|line| line.strip_prefix("summary: "))
+        .filter_map(|number| number.trim().parse().ok())
+        .filter(|&number| number > 0.0)
+        .collect();
+    if counts.len() != 2 * ROWS.len() {
+        return Err(format!("callgrind wrote {} counts", counts.len()));
+    }
+    Ok(counts.chunks_exact(2).map(|two| (two[0], two[1])).collect())
+}
+
+fn said(what: &str, error: impl Display) -> String {
+    format!("{what}: {error}")
+}
+
+/// The library's growth from a tenth of the largest model to the whole.
+fn growth(counts: &[(f64, f64)]) -> (f64, f64) {
+    let of = |name: &str| {
+        let at = ROWS.iter().position(|row| row.name == name);
+        counts[at.expect("a row")]
+    };
+    let (whole, tenth) = (of(LARGEST), of(TENTH));
+    (whole.0 / tenth.0, whole.1 / tenth.1)
+}
+
+/// Fails if a ratio or the growth is above its limit.
+fn test() -> Result<(), String> {
+    let Some(counts) = instructions()? else {
+        println!("bench: valgrind is not there, no instructions were counted");
+        return Ok(());
+    };
+    let mut above = Vec::new();
+    for (row, (library, unrelated)) in ROWS.iter().zip(&counts) {
+        let ratio = library / unrelated;
+        if ratio > row.limit {
+            above.push(format!(
+                "  {}: {library} instructions over {unrelated}, {ratio:.2} times; the limit is {}",
+                row.name, row.limit
+            ));
+        }
+    }
+    let (grown, _) = growth(&counts);
+    if grown > GROWTH_LIMIT {
+        above.push(format!(
+            "  from {TENTH} to the whole: {grown:.1} times; the limit is {GROWTH_LIMIT}"
+        ));
+    }
+    if above.is_empty() {
+        println!(
+            "bench: {} inputs, instructions of each call within its limit",
+            ROWS.len()
+        );
+        return Ok(());
+    }
+    Err(format!(
+        "bench: instructions above the limit:\n{}\nbench failed: {} above their limit",
+        above.join("\n"),
+        above.len()
+    ))
+}
+
+/// The table of docs/PERFORMANCE.md.
+fn table() -> Result<(), String> {
+    let counts = instructions()?;
+    if counts.is_none() {
+        println!("valgrind is not there: no instructions were counted\n");
+    }
+    println!("| Input | Bytes | Library | Unrelated | Ratio | Goal | Library ns | Unrelated ns |");
+    println!("|---|--:|--:|--:|--:|--:|--:|--:|");
+    for (i, row) in ROWS.iter().enumerate() {
+        print_row(row, counts.as_ref().map(|counts| counts[i]));
+    }
+    if let Some(counts) = counts {
+        let (library, unrelated) = growth(&counts);
+        println!(
+            "\nFrom {TENTH} to the whole the library's instructions grow {library:.1} times \
+             (goal {GROWTH_GOAL}), the unrelated checker's {unrelated:.1} times."
+        );
+    }
+    Ok(())
+}
+
+fn print_row(row: &Row, count: Option<(f64, f64)>) {
+    let case = (row.make)();
+    let (model, instance) = case.images();
+    let mut bytes = grouped(model.len() as f64);
+    if !instance.is_empty() {
+        bytes += &format!(" + {}", grouped(instance.len() as f64));
+    }
+    let counted = match count {
+        Some((library, unrelated)) => format!(
+            "{} | {} | {:.2}",
+            grouped(library),
+            grouped(unrelated),
+            library / unrelated
+        ),
+        None => "| |".to_string(),
+    };
+    let (library, unrelated) = times(&case);
+    println!(
+        "| {} | {bytes} | {counted} | {:.1} | {} | {} |",
+        row.name,
+        row.goal,
+        grouped(library),
+        grouped(unrelated)
+    );
+}
+
+/// A number with a comma before each three digits.
+fn grouped(number: f64) -> String {
+    let digits = format!("{number:.0}");
+    let mut text = String::new();
+    for (i, digit) in digits.chars().enumerate() {
+        if i > 0 && (digits.len() - i) % 3 == 0 {
+            text.push(',');
+        }
+        text.push(digit);
+    }
+    text
+}
+
+/// Nanoseconds a call of the two, their rounds taken in turns.
+fn times(case: &Case) -> (f64, f64) {
+    let mut buffer = case.buffer().to_vec();
     let mut best = (f64::INFINITY, f64::INFINITY);
     for _ in 0..ROUNDS {
-        best.0 = best.0.min(round(&mut portal));
-        best.1 = best.1.min(round(&mut outside));
+        best.0 = best
+            .0
+            .min(round(|| By::Library.call(black_box(case), &mut buffer)));
+        best.1 = best
+            .1
+            .min(round(|| By::Unrelated.call(black_box(case), &mut buffer)));
     }
     best
 }
 
-fn round(call: &mut impl FnMut()) -> f64 {
+fn round(mut call: impl FnMut() -> u64) -> f64 {
     let start = Instant::now();
     let mut calls = 0u32;
     while start.elapsed() < ROUND {
-        for _ in 0..8 {
-            call();
-        }
-        calls += 8;
+        black_box(call());
+        calls += 1;
     }
     start.elapsed().as_nanos() as f64 / f64::from(calls)
-}
-
-fn row(name: &str, (portal, outside): (f64, f64)) {
-    println!(
-        "{name:44} {portal:12.0} {outside:12.0} {:8.2}",
-        portal / outside
-    );
-}
-
-/// Both times of a model check.
-fn model_times(image: &[u8]) -> (f64, f64) {
-    let (mut buffer, mut other) = ([0; 2048], [0; 2048]);
-    times(
-        || {
-            black_box(ffi::check_model(black_box(image), &mut buffer));
-        },
-        || {
-            black_box(checker::check_model(black_box(image), &mut other));
-        },
-    )
-}
-
-fn model_row(name: &str, image: &[u8]) {
-    let mut buffer = [0; 2048];
-    let expected = checker::check_model(image, &mut buffer).packed();
-    let found = ffi::check_model(image, &mut buffer);
-    row(name, model_times(image));
-    if expected != found {
-        println!("  answers differ: portal {found:#x}, outside {expected:#x}");
-    }
-}
-
-/// 16 tours of 15 stops: 256 nodes; 20 walks.
-fn instance_rows(model: &[u8]) {
-    let instance = tours(16, 15).encode(&mut Random::new(1)).to_bytes();
-    let checks = times(
-        || {
-            black_box(ffi::check_instance(model, &instance));
-        },
-        || {
-            black_box(checker::check_instance(model, &instance));
-        },
-    );
-    row("instance of 256 nodes, check", checks);
-    // Place 14 is the binding, place 11 the key of a stop.
-    let tours = (0..16).map(|node| (14, node));
-    let walks: Vec<(u32, u32)> = tours.chain((16..20).map(|node| (11, node))).collect();
-    let (mut results, mut other) = (vec![0; 16384], vec![0; 16384]);
-    let walked = times(
-        || {
-            for &(place, node) in &walks {
-                black_box(ffi::walk(model, &instance, place, 0, node, &mut results));
-            }
-        },
-        || {
-            for &(place, node) in &walks {
-                black_box(checker::walk(model, &instance, place, 0, node, &mut other));
-            }
-        },
-    );
-    row("instance of 256 nodes, 20 walks", walked);
-}
-
-/// The largest model with one fault each.
-fn refused_rows() {
-    let sound = chain(64);
-    let mut spare = sound.clone();
-    spare.tables[7][1023][1] = 1;
-    let mut bases = sound.clone();
-    bases.tables[1][0][5] = 64;
-    let mut lost = sound.clone();
-    // The name of the first schema, which no property has.
-    lost.tables[7][1023] = vec![0, 0, lost.tables[0][0][0], lost.tables[0][0][1]];
-    // The last binding ends at a containment.
-    let mut binding = sound.clone();
-    let containment = &sound.tables[2][0];
-    binding.tables[7][1023] = vec![0, 0, containment[6], containment[7]];
-    let whole = sound.to_bytes();
-    let cases = [
-        ("no bytes", Vec::new()),
-        ("one byte short", whole[..whole.len() - 1].to_vec()),
-        ("spare bit in the last record", spare.to_bytes()),
-        ("bases in a circle of 64", bases.to_bytes()),
-        ("last segment lost", lost.to_bytes()),
-        ("last binding", binding.to_bytes()),
-    ];
-    for (name, image) in cases {
-        let rule = match checker::check_model(&image, &mut [0; 2048]) {
-            Answer::Refused { rule, .. } => rule,
-            _ => 0,
-        };
-        model_row(&format!("refused {rule}: {name}"), &image);
-    }
-}
-
-/// From a tenth of the largest model to the whole.
-fn growth() {
-    println!();
-    println!("{:44} {:>12} {:>12}", "growth", "portal ns", "outside ns");
-    let mut first = None;
-    for tenths in 1..=10 {
-        let image = chain(64 * tenths / 10).to_bytes();
-        let (portal, outside) = model_times(&image);
-        let name = format!("{tenths}/10 of the largest, {} bytes", image.len());
-        println!("{name:44} {portal:12.0} {outside:12.0}");
-        let (p, o, bytes) = *first.get_or_insert((portal, outside, image.len()));
-        if tenths == 10 {
-            println!(
-                "from 1/10 to the whole: bytes x {:.1}, portal x {:.1}, outside x {:.1}",
-                image.len() as f64 / bytes as f64,
-                portal / p,
-                outside / o
-            );
-        }
-    }
 }

@@ -39,12 +39,16 @@ pub struct Outcome {
 impl Case {
     /// What the checker of this crate answers.
     pub fn reference(&self) -> (Answer, Outcome) {
-        let mut lent = Vec::new();
-        let answer = match self {
-            Case::Model { image, buffer } => {
-                lent = buffer.clone();
-                checker::check_model(image, &mut lent)
-            }
+        let mut buffer = self.buffer().to_vec();
+        let answer = self.call_reference(&mut buffer);
+        let packed = answer.packed();
+        (answer, Outcome { packed, buffer })
+    }
+
+    /// The call of this crate's checker, with a buffer in place of its own.
+    pub fn call_reference(&self, lent: &mut [u8]) -> Answer {
+        match self {
+            Case::Model { image, .. } => checker::check_model(image, lent),
             Case::Instance { model, instance } => checker::check_instance(model, instance),
             Case::Walk {
                 model,
@@ -52,20 +56,28 @@ impl Case {
                 place,
                 path,
                 node,
-                buffer,
-            } => {
-                lent = buffer.clone();
-                checker::walk(model, instance, *place, *path, *node, &mut lent)
-            }
-        };
-        let packed = answer.packed();
-        (
-            answer,
-            Outcome {
-                packed,
-                buffer: lent,
-            },
-        )
+                ..
+            } => checker::walk(model, instance, *place, *path, *node, lent),
+        }
+    }
+
+    /// The buffer that is lent to be written to; an instance check has none.
+    pub fn buffer(&self) -> &[u8] {
+        match self {
+            Case::Model { buffer, .. } | Case::Walk { buffer, .. } => buffer,
+            Case::Instance { .. } => &[],
+        }
+    }
+
+    /// The model image, and the instance image or nothing.
+    pub fn images(&self) -> (&[u8], &[u8]) {
+        match self {
+            Case::Model { image, .. } => (image, &[]),
+            Case::Instance { model, instance }
+            | Case::Walk {
+                model, instance, ..
+            } => (model, instance),
+        }
     }
 }
 

@@ -7,7 +7,7 @@ use borrow.Fn.PlainCycle.{Measures, is, falls, and}
 use Rattle.lookup.proofs.bases.above.Reads as above
 use Rattle.lookup.proofs.bases.above.Kinds as above-kinds
 use Rattle.lookup.proofs.bases.+above.Lts-above as above-lts
-use Rattle.records.proofs.types.type_base.Reads as type-base-reads
+use Rattle.model_image.proofs.types.type_base.Reads as type-base-reads
 use Rattle.lookup.proofs.bases.+above.{statement}
 use Rattle.lookup.proofs.bases.+above.Tie.{close}
 

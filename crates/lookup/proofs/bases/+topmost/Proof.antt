@@ -7,7 +7,7 @@ use borrow.Fn.PlainCycle.{Measures, is, falls, and}
 use Rattle.lookup.proofs.bases.topmost.Reads as topmost
 use Rattle.lookup.proofs.bases.topmost.Kinds as topmost-kinds
 use Rattle.lookup.proofs.bases.+topmost.Lts-topmost as topmost-lts
-use Rattle.records.proofs.types.type_base.Reads as type-base-reads
+use Rattle.model_image.proofs.types.type_base.Reads as type-base-reads
 use Rattle.lookup.proofs.bases.+topmost.{statement}
 use Rattle.lookup.proofs.bases.+topmost.Tie.{close}
 

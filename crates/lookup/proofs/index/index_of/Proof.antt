@@ -1,49 +1,103 @@
-use Prim.Native.Nat.{ℕ, _≤_}
-use mathlib.Core.Path.{_≡_}
+use Prim.Native.Nat.{ℕ, _+_, _≤_}
+use mathlib.Core.Path.{_≡_, refl, _∙_}
+use native.Mathlib.Numerals.{add-one}
 use native.Mathlib.Omega.{arith}
+use lib.ListN.{getD, length-set}
 use Rattle.csdl.specs.Tables.{propertyCount}
-use Rattle.lookup.specs.Index.{bucket, nameOf}
-use Rattle.lookup.proofs.Chain.{Filled, filled-start, filled-step, indexed}
+use Rattle.name_classes.specs.Classes.{nameOf, Ranked}
+use Rattle.lookup.proofs.Chain.{Filled, filled-start, filled-step, filled-past, entry-read, indexed, alike-start}
+use Rattle.name_classes.proofs.Ranks.{firsts-count, place-first}
 use borrow.Author.Needs.{needs}
 use Rattle.lookup.proofs.index.index_of.Statement.{statement}
 use Rattle.lookup.proofs.index.index_of.Tie as tie
 
 abbrev Inv-loop : tie.InvT-loop
-Inv-loop properties names entries₀ p₀ entries p =
-    (p ≤ propertyCount properties) × (propertyCount properties ≤ 512) × Filled (λ q. bucket (nameOf properties names q)) (propertyCount properties) p entries
+Inv-loop properties names index₀ later₀ p₀ index later p = (p ≤ propertyCount properties) × (propertyCount properties ≤ 512) × Ranked (λ q. nameOf properties names q) (propertyCount properties) (getD index₀ 1536 0) index₀
+    × Filled (λ q. getD index₀ (512 + q) 0) (propertyCount properties) index₀ p index later
 
 abbrev μ-loop : tie.MeasureT-loop
-μ-loop properties names entries₀ p₀ entries p = p
+μ-loop properties names index₀ later₀ p₀ index later p = p
+
+ranked-requires : tie.Need-ranked-requires Inv-loop μ-loop
+ranked-requires c κs = search needs
+
+property-count-requires : tie.Need-property-count-requires Inv-loop μ-loop
+property-count-requires c κs = search needs
 
 loop-holds : tie.Need-loop-holds Inv-loop μ-loop
-loop-holds c = (
-  search needs,
-  search needs,
-  rw (c .property-count .ensures .0) (filled-start _ _),
-)
+loop-holds c = (search needs, search needs, c .before .ranked .ensures .0, rw (c .property-count .ensures .0) (filled-start _ _ _ (c .before .ranked .ensures .0 .size)))
+
+cast-first : tie.Need-cast-first Inv-loop μ-loop
+cast-first c = search needs
+
+add-first : tie.Need-add-first Inv-loop μ-loop
+add-first c = search needs
+
+mul-first : tie.Need-mul-first Inv-loop μ-loop
+mul-first c = search needs
+
+array-read-first : tie.Need-array-read-first Inv-loop μ-loop
+array-read-first c = let l = c .before .loop in let a = c .before .before .before .before .before .before .args in let old = c .before .before .before .ranked .result in let f = l .inv .3 in let r = entry-read (a .properties .now) (a .names .now) old (l .index) (l .later) (l .p) (l .inv .1) (omega arith) (l .inv .0) (l .inv .2) f in omega (arith, f .size)
+
+cast-first-2 : tie.Need-cast-first-2 Inv-loop μ-loop
+cast-first-2 c = let l = c .before .loop in let a = c .before .before .before .before .before .before .args in let old = c .before .before .before .ranked .result in let f = l .inv .3 in let r = entry-read (a .properties .now) (a .names .now) old (l .index) (l .later) (l .p) (l .inv .1) (omega arith) (l .inv .0) (l .inv .2) f in omega (arith, r .1)
+
+mul-next : tie.Need-mul-next Inv-loop μ-loop
+mul-next c = let l = c .before .loop in let a = c .before .before .before .before .before .before .args in let old = c .before .before .before .ranked .result in let f = l .inv .3 in let r = entry-read (a .properties .now) (a .names .now) old (l .index) (l .later) (l .p) (l .inv .1) (omega arith) (l .inv .0) (l .inv .2) f in omega (arith, r .1)
 
 array-read-next : tie.Need-array-read-next Inv-loop μ-loop
-array-read-next c = omega arith
+array-read-next c = let l = c .before .loop in let a = c .before .before .before .before .before .before .args in let old = c .before .before .before .ranked .result in let f = l .inv .3 in let r = entry-read (a .properties .now) (a .names .now) old (l .index) (l .later) (l .p) (l .inv .1) (omega arith) (l .inv .0) (l .inv .2) f in omega (arith, r .1, f .places)
 
-array-write-entries : tie.Need-array-write-entries Inv-loop μ-loop
-array-write-entries c = omega arith
+cast-index : tie.Need-cast-index Inv-loop μ-loop
+cast-index c = search needs
 
-array-write-entries-2 : tie.Need-array-write-entries-2 Inv-loop μ-loop
-array-write-entries-2 c = omega arith
+add-index : tie.Need-add-index Inv-loop μ-loop
+add-index c = search needs
+
+mul-index : tie.Need-mul-index Inv-loop μ-loop
+mul-index c = search needs
+
+array-write-index : tie.Need-array-write-index Inv-loop μ-loop
+array-write-index c = let l = c .before .loop in let a = c .before .before .before .before .before .before .args in let old = c .before .before .before .ranked .result in let f = l .inv .3 in let r = entry-read (a .properties .now) (a .names .now) old (l .index) (l .later) (l .p) (l .inv .1) (omega arith) (l .inv .0) (l .inv .2) f in omega (arith, f .size)
+
+mul-later : tie.Need-mul-later Inv-loop μ-loop
+mul-later c = let l = c .before .loop in let a = c .before .before .before .before .before .before .args in let old = c .before .before .before .ranked .result in let f = l .inv .3 in let r = entry-read (a .properties .now) (a .names .now) old (l .index) (l .later) (l .p) (l .inv .1) (omega arith) (l .inv .0) (l .inv .2) f in omega (arith, r .1)
+
+array-write-later : tie.Need-array-write-later Inv-loop μ-loop
+array-write-later c = let l = c .before .loop in let a = c .before .before .before .before .before .before .args in let old = c .before .before .before .ranked .result in let f = l .inv .3 in let r = entry-read (a .properties .now) (a .names .now) old (l .index) (l .later) (l .p) (l .inv .1) (omega arith) (l .inv .0) (l .inv .2) f in omega (arith, r .1, f .places)
+
+sub-property-text : tie.Need-sub-property-text Inv-loop μ-loop
+sub-property-text c = search needs
+
+property-text-requires : tie.Need-property-text-requires Inv-loop μ-loop
+property-text-requires c κs = search needs
+
+bucket-of-requires : tie.Need-bucket-of-requires Inv-loop μ-loop
+bucket-of-requires c κs = search needs
+
+cast-index-2 : tie.Need-cast-index-2 Inv-loop μ-loop
+cast-index-2 c = search needs
+
+add-index-2 : tie.Need-add-index-2 Inv-loop μ-loop
+add-index-2 c = search needs
+
+mul-index-2 : tie.Need-mul-index-2 Inv-loop μ-loop
+mul-index-2 c = search needs
+
+array-write-index-2 : tie.Need-array-write-index-2 Inv-loop μ-loop
+array-write-index-2 c = let l = c .before .before .before .loop in let f = l .inv .3 in omega (arith, f .size, c .bucket-of .ensures)
+
+sub-p : tie.Need-sub-p Inv-loop μ-loop
+sub-p c = search needs
+
+loop-less : tie.Need-loop-less Inv-loop μ-loop
+loop-less c = search needs
 
 loop-again : tie.Need-loop-again Inv-loop μ-loop
-loop-again c =
-    let l = c .before .before .before .loop in (
-      search needs,
-      search needs,
-      filled-step _ _ _ _ _ (l .inv .1) (omega arith) (l .inv .0) (rw (← c .before .property-text .ensures) (c .bucket-of .ensures .0)) (c .bucket-of .ensures .1) (l .inv .2),
-    )
+loop-again c = let l = c .before .before .before .loop in let a = c .before .before .before .before .before .before .before .before .args in let old = c .before .before .before .before .before .ranked .result in let f = l .inv .3 in let r = entry-read (a .properties .now) (a .names .now) old (l .index) (l .later) (l .p) (l .inv .1) (omega arith) (l .inv .0) (l .inv .2) f in (search needs, search needs, l .inv .2, filled-past _ _ _ _ _ _ _ _ (l .inv .1) (omega arith) (filled-step _ _ _ _ _ _ _ (l .inv .1) (omega arith) (l .inv .0) (r .0) (r .1) f))
 
 returns : tie.Need-returns Inv-loop μ-loop
-returns c =
-    let f = c .before .loop .inv .2 in
-    let e : c .before .loop .p ≡ 0 = omega arith in
-    indexed _ _ _ (rw e at f)
+returns c = let l = c .before .loop in let f = l .inv .3 in let e : l .p ≡ 0 = omega arith in let x = indexed _ _ _ _ _ (l .inv .1) (l .inv .2) (rw e at f) in let r = x .ranked in (x, (firsts-count _ _ _ _ r, (λ i h. add-one _ ∙ place-first _ _ _ _ r i h, λ p h. (alike-start _ _ _ x p h _ refl, x .next p h))))
 
 pub index-of-spec : {M : Type 1} → statement M
 index-of-spec =
@@ -51,21 +105,30 @@ index-of-spec =
     (tie.spec
     Inv-loop
     μ-loop
-    (λ c κs. search needs)
+    ranked-requires
+    property-count-requires
     loop-holds
-    (λ c. search needs)
-    (λ c κs. search needs)
-    (λ c κs. search needs)
-    (λ c. search needs)
-    (λ c. search needs)
+    cast-first
+    add-first
+    mul-first
+    array-read-first
+    cast-first-2
+    mul-next
     array-read-next
-    (λ c. search needs)
-    (λ c. search needs)
-    (λ c. search needs)
-    array-write-entries
-    (λ c. search needs)
-    array-write-entries-2
-    (λ c. search needs)
-    (λ c. search needs)
+    cast-index
+    add-index
+    mul-index
+    array-write-index
+    mul-later
+    array-write-later
+    sub-property-text
+    property-text-requires
+    bucket-of-requires
+    cast-index-2
+    add-index-2
+    mul-index-2
+    array-write-index-2
+    sub-p
+    loop-less
     loop-again
     returns)

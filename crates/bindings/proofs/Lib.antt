@@ -1,4 +1,0 @@
-pub mod Comparing
-pub mod LastName
-pub mod PartnerPaths
-pub mod BindingPaths

@@ -1,6 +1,0 @@
-use borrow.Author.Needs.{needs}
-use Rattle.bindings.proofs.partners.other_with_partner.Statement.{statement}
-use Rattle.bindings.proofs.partners.other_with_partner.Tie as tie
-
-pub other-with-partner-spec : {M : Type 1} → statement M
-other-with-partner-spec = tie.close (tie.spec (λ c κs. search needs) (λ c. cc))

@@ -1,2 +1,0 @@
-// Rules 22 to 25 of an instance: its records against the model.
-pub mod rules;

@@ -1,0 +1,115 @@
+// The paths of an accepted model: a heading for each and below it a line for each of its segments, with the segment's place, its name,
+// or that of its type for a cast, and the property or cast to which it resolves.
+ghost use Prim.Native.Nat.{_<_};
+ghost use Rattle.model_image.specs.Laid.{Laid};
+use crate::description::property_in_words;
+use crate::description::type_in_words;
+use crate::paths::heading;
+use crate::paths::holders;
+use crate::paths::path_of;
+use crate::paths::place_after;
+use crate::print::column;
+use crate::print::right;
+use crate::print::text;
+use lookup::texts::property_text;
+use lookup::texts::type_text;
+use model_image::layout::Layout;
+use model_image::layout::names_of;
+use model_image::layout::properties_of;
+use model_image::layout::types_of;
+
+// The paths in image order: partners, keys, then the two paths of each constraint and of each binding.
+pub fn paths(image: &[u8], at: Layout, resolution: &[u8; sheet::RESOLUTION_SIZE])
+    requires { ⌜ Laid (now image) at ⌝ }
+{
+    paths_of(image, at, resolution, 0, 0);
+    paths_of(image, at, resolution, 1, 1);
+    paths_of(image, at, resolution, 2, 3);
+    paths_of(image, at, resolution, 4, 5);
+}
+
+// For each record the paths of these kinds, which are two kinds of one table.
+fn paths_of(
+    image: &[u8],
+    at: Layout,
+    resolution: &[u8; sheet::RESOLUTION_SIZE],
+    first: u16,
+    last: u16,
+)
+    requires { ⌜ Laid (now image) at ⌝ }
+{
+    let n = holders(image, at, first);
+    for r in 0..n {
+        path(image, at, resolution, first, r);
+        if first != last {
+            path(image, at, resolution, last, r);
+        }
+    }
+}
+
+fn path(image: &[u8], at: Layout, resolution: &[u8; sheet::RESOLUTION_SIZE], kind: u16, r: u16)
+    requires { ⌜ Laid (now image) at ⌝ }
+{
+    let run = path_of(image, at, kind, r);
+    let first = run.first;
+    let count = run.count;
+    if count == 0 {
+        return;
+    }
+    heading(image, at, kind, r);
+    text(b"\n");
+    segments(image, at, resolution, first, count);
+}
+
+fn segments(
+    image: &[u8],
+    at: Layout,
+    resolution: &[u8; sheet::RESOLUTION_SIZE],
+    first: u16,
+    count: u16,
+)
+    requires { ⌜ Laid (now image) at ⌝ }
+    requires { ⌜ (first < 2048) × (count < 16) ⌝ }
+{
+    for k in 0..count {
+        let g = first + k;
+        segment(image, at, g, code_of(resolution, g));
+    }
+}
+
+// What segment g resolves to: a property's number, or 32768 and that of a cast's type.
+fn code_of(resolution: &[u8; sheet::RESOLUTION_SIZE], g: u16) -> u16 {
+    packed::field16(resolution, 16 * (g as u32), 16)
+}
+
+fn segment(image: &[u8], at: Layout, g: u16, resolved: u16)
+    requires { ⌜ Laid (now image) at ⌝ }
+{
+    right(place_after(at.segments_place, g));
+    text(b"  ");
+    if resolved < 32768 {
+        property(image, at, resolved);
+    } else {
+        cast(image, at, resolved - 32768);
+    }
+    text(b"\n");
+}
+
+// A name and the property that it means, which has that name, as `No   property 2 Stop/No`.
+fn property(image: &[u8], at: Layout, p: u16)
+    requires { ⌜ Laid (now image) at ⌝ }
+{
+    let names = names_of(image, at);
+    column(property_text(properties_of(image, at), names, p));
+    property_in_words(image, at, names, p);
+}
+
+// A cast and its type, as `Stop   cast to entity type 1 Stop`.
+fn cast(image: &[u8], at: Layout, t: u16)
+    requires { ⌜ Laid (now image) at ⌝ }
+{
+    let names = names_of(image, at);
+    column(type_text(types_of(image, at), names, t));
+    text(b"cast to ");
+    type_in_words(image, at, names, t);
+}

@@ -1,3 +1,0 @@
-pub mod Chain
-pub mod Frame
-pub mod Parts

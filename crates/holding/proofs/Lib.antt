@@ -1,3 +1,0 @@
-pub mod Climbing
-pub mod Marking
-pub mod Bridge

@@ -1,2 +1,0 @@
-pub mod Dots
-pub mod Repeats

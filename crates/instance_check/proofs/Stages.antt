@@ -1,0 +1,187 @@
+-- The verdict over the rules, one rule a turn: x is what the code found, 0 for none, else the place plus 1. Assumes nothing.
+use Prim.Native.Nat.{ℕ, zero, suc, _+_, _-_, _≤_, _<_}
+use mathlib.Core.Path.{_≡_, refl, sym, _∙_}
+use mathlib.Core.Bool.{Bool}
+use mathlib.Core.List.{List, [], _∷_}
+use native.Mathlib.Omega.{arith}
+use Rattle.csdl.specs.Search.{firstFrom, orElse}
+use Rattle.csdl.specs.Model.{Model, modelOf}
+use Rattle.csdl.specs.Find.{ofKind, structured, ancestor, ancestorOrSelf, declares, own, find, isNameOf, complexStep, containStep, integral}
+use Rattle.csdl.specs.Instance.{Instance, instanceOf, instanceIn, nodeCount, slotCount, itemCount, parts}
+use Rattle.csdl.specs.Conforms.{node21a, slot21b, item21c, rule21, node22, rule22, slotsOf, node23, rule23, slot24, rule24, carriesNode, item25of, item25, rule25, holdsItem, holdsNode, node26, rule26, placedPart, instanceStages}
+use Rattle.csdl.specs.Verdict.{Answer, Stage, refuse, verdict}
+use Rattle.csdl.specs.Verdict.Answer.{refused}
+use Rattle.csdl.specs.Verdict.Stage.{each}
+use Rattle.instance_runs.specs.Tables.{further}
+use Rattle.csdl.specs.Image.{modelIn}
+use Rattle.model_image.specs.Laid.{schemasIn, typesIn, propertiesIn, keysIn, constraintsIn, childrenIn, bindingsIn, segmentsIn, namesIn}
+use Rattle.instance_image.specs.Tables.{nodesIn, slotsIn, itemsIn}
+use Rattle.instance_check.specs.Stages.{ruleNo, lowestPart}
+use Rattle.instance_values.proofs.Places.{first-part, nodes-only, slots-only, items-only}
+
+-- A rule that is broken; one that is kept.
+pub stage-hit : (n rule x : ℕ) (test : ℕ → Bool) (stages : List Stage) (o : Answer) → x ≡ firstFrom test 0 n → (x ≡ 0 → ⊥)
+    → refused rule (x - 1) ≡ verdict n (each rule test ∷ stages) o
+unfolding verdict
+stage-hit n rule x test stages o e h = rw (← e) (go x h)
+  where
+    go : (y : ℕ) → (y ≡ 0 → ⊥) → refused rule (y - 1) ≡ refuse rule y (verdict n stages o)
+    go zero q = absurd (q refl)
+    go (suc y) q = let z : suc y - 1 ≡ y = omega arith in rw z
+
+pub stage-next : (n rule x : ℕ) (test : ℕ → Bool) (stages : List Stage) (o answer : Answer) → x ≡ firstFrom test 0 n → x ≡ 0
+    → answer ≡ verdict n stages o
+    → answer ≡ verdict n (each rule test ∷ stages) o
+unfolding verdict
+stage-next n rule x test stages o answer e z p = rw (← e, z) p
+
+pub stages-end : (n : ℕ) (o : Answer) → o ≡ verdict n [] o
+unfolding verdict
+stages-end n o = refl
+
+-- The first of a node, a slot and an item.
+module _ (x f r : ℕ) (e : x ≡ f) where
+  pub found-here : (x ≡ 0 → ⊥) → x ≡ orElse f r
+  found-here n = rw (← e) (go x n)
+    where
+      go : (y : ℕ) → (y ≡ 0 → ⊥) → y ≡ orElse y r
+      go zero q = absurd (q refl)
+      go (suc y) q = refl
+
+  pub found-later : (a : ℕ) → x ≡ 0 → a ≡ r → a ≡ orElse f r
+  found-later a z p = rw (← e, z) p
+
+-- The same d further on.
+module _ (d x f : ℕ) (e : x ≡ f) where
+  pub further-here : (r : ℕ) → (x ≡ 0 → ⊥) → d + x ≡ orElse (further d f) r
+  further-here r n = rw (← e) (go x n)
+    where
+      go : (y : ℕ) → (y ≡ 0 → ⊥) → d + y ≡ orElse (further d y) r
+      go zero q = absurd (q refl)
+      go (suc y) q = over (d + suc y) (omega arith)
+        where
+          over : (z : ℕ) → (z ≡ 0 → ⊥) → z ≡ orElse z r
+          over zero p = absurd (p refl)
+          over (suc z) p = refl
+
+  pub further-none : (a r : ℕ) → x ≡ 0 → a ≡ r → a ≡ orElse (further d f) r
+  further-none a r z p = rw (← e, z) p
+
+  pub further-last : (x ≡ 0 → ⊥) → d + x ≡ further d f
+  further-last n = rw (← e) (go x n)
+    where
+      go : (y : ℕ) → (y ≡ 0 → ⊥) → d + y ≡ further d y
+      go zero q = absurd (q refl)
+      go (suc y) q = refl
+
+  pub further-gone : x ≡ 0 → 0 ≡ further d f
+  further-gone z = rw (← e, z)
+
+pub further-is : (d y : ℕ) → (y ≡ 0 → ⊥) → d + y ≡ further d y
+further-is d zero n = absurd (n refl)
+further-is d (suc y) n = refl
+
+-- Rule 21 by its parts.
+pub first-21 : (m : Model) (i : Instance)
+    → firstFrom (placedPart m i rule21) 0 (parts i)
+    ≡ orElse (firstFrom (λ v. node21a m i v) 0 (i .nodes))
+    (orElse (further (i .nodes) (firstFrom (λ s. slot21b m i s) 0 (i .slots))) (further (i .nodes + i .slots) (firstFrom (λ k. item21c i k) 0 (i .items))))
+unfolding rule21
+first-21 m i = first-part i (rule21 m i)
+
+-- ---- what was found at the tables that a rule reads, as what is found at all tables
+module _ (sc ty pr ke co ch bi sg nm no sl it : List ℕ) (x : ℕ) where
+  pub found-21 : x ≡ firstFrom (placedPart (modelOf [] ty pr [] [] [] [] [] []) (instanceOf no sl it) rule21) 0 (parts (instanceOf no sl it))
+      → x ≡ firstFrom (placedPart (modelOf sc ty pr ke co ch bi sg nm) (instanceOf no sl it) rule21) 0 (parts (instanceOf no sl it))
+  unfolding modelOf node21a slot21b
+  found-21 e =
+      e ∙ first-21 (modelOf [] ty pr [] [] [] [] [] []) (instanceOf no sl it) ∙ sym (first-21 (modelOf sc ty pr ke co ch bi sg nm) (instanceOf no sl it))
+
+  pub found-22 : x ≡ firstFrom (λ v. node22 (modelOf [] ty [] [] [] [] [] [] []) (instanceOf no [] []) v) 0 (nodeCount no)
+      → x ≡ firstFrom (placedPart (modelOf sc ty pr ke co ch bi sg nm) (instanceOf no sl it) rule22) 0 (parts (instanceOf no sl it))
+  unfolding modelOf instanceOf node22 structured
+  found-22 e = e ∙ sym (nodes-only (instanceOf no sl it) (λ v. node22 (modelOf sc ty pr ke co ch bi sg nm) (instanceOf no sl it) v))
+
+  pub found-23 : x ≡ firstFrom (λ v. node23 (modelOf [] ty pr [] [] [] [] [] nm) (instanceOf no sl []) v) 0 (nodeCount no)
+      → x ≡ firstFrom (placedPart (modelOf sc ty pr ke co ch bi sg nm) (instanceOf no sl it) rule23) 0 (parts (instanceOf no sl it))
+  unfolding modelOf instanceOf node23 slotsOf isNameOf find own declares
+  found-23 e = e ∙ sym (nodes-only (instanceOf no sl it) (λ v. node23 (modelOf sc ty pr ke co ch bi sg nm) (instanceOf no sl it) v))
+
+  pub found-24 : x ≡ further (nodeCount no) (firstFrom (λ s. slot24 (modelOf [] [] pr [] [] [] [] [] []) (instanceOf [] sl []) s) 0 (slotCount sl))
+      → x ≡ firstFrom (placedPart (modelOf sc ty pr ke co ch bi sg nm) (instanceOf no sl it) rule24) 0 (parts (instanceOf no sl it))
+  unfolding modelOf instanceOf slot24
+  found-24 e = e ∙ sym (slots-only (instanceOf no sl it) (λ s. slot24 (modelOf sc ty pr ke co ch bi sg nm) (instanceOf no sl it) s))
+
+  pub found-25 : x ≡ further (nodeCount no + slotCount sl) (firstFrom (λ k. item25 (modelOf [] ty pr [] [] [] [] [] []) (instanceOf no sl it) k) 0 (itemCount it))
+      → x ≡ firstFrom (placedPart (modelOf sc ty pr ke co ch bi sg nm) (instanceOf no sl it) rule25) 0 (parts (instanceOf no sl it))
+  unfolding modelOf instanceOf item25 item25of structured carriesNode ancestorOrSelf ancestor
+  found-25 e = e ∙ sym (items-only (instanceOf no sl it) (λ k. item25 (modelOf sc ty pr ke co ch bi sg nm) (instanceOf no sl it) k))
+
+  pub found-26 : x ≡ firstFrom (λ w. node26 (modelOf [] ty pr [] [] [] [] [] []) (instanceOf no sl it) w) 0 (nodeCount no)
+      → x ≡ firstFrom (placedPart (modelOf sc ty pr ke co ch bi sg nm) (instanceOf no sl it) rule26) 0 (parts (instanceOf no sl it))
+  unfolding modelOf instanceOf node26 holdsNode holdsItem integral complexStep containStep ofKind
+  found-26 e = e ∙ sym (nodes-only (instanceOf no sl it) (λ w. node26 (modelOf sc ty pr ke co ch bi sg nm) (instanceOf no sl it) w))
+
+-- The same over the two images.
+module _ (m i : List ℕ) (x : ℕ) where
+  pub in-21 : x ≡ firstFrom (placedPart (modelOf [] (typesIn m) (propertiesIn m) [] [] [] [] [] []) (instanceOf (nodesIn i) (slotsIn i) (itemsIn i)) rule21) 0 (parts (instanceOf (nodesIn i) (slotsIn i) (itemsIn i)))
+      → x ≡ lowestPart (modelIn m) (instanceIn i) rule21
+  unfolding modelIn instanceIn lowestPart
+  in-21 e = found-21 (schemasIn m) (typesIn m) (propertiesIn m) (keysIn m) (constraintsIn m) (childrenIn m) (bindingsIn m) (segmentsIn m) (namesIn m) (nodesIn i) (slotsIn i) (itemsIn i) x e
+
+  pub in-22 : x ≡ firstFrom (λ v. node22 (modelOf [] (typesIn m) [] [] [] [] [] [] []) (instanceOf (nodesIn i) [] []) v) 0 (nodeCount (nodesIn i)) → x ≡ lowestPart (modelIn m) (instanceIn i) rule22
+  unfolding modelIn instanceIn lowestPart
+  in-22 e = found-22 (schemasIn m) (typesIn m) (propertiesIn m) (keysIn m) (constraintsIn m) (childrenIn m) (bindingsIn m) (segmentsIn m) (namesIn m) (nodesIn i) (slotsIn i) (itemsIn i) x e
+
+  pub in-23 : x ≡ firstFrom (λ v. node23 (modelOf [] (typesIn m) (propertiesIn m) [] [] [] [] [] (namesIn m)) (instanceOf (nodesIn i) (slotsIn i) []) v) 0 (nodeCount (nodesIn i)) → x ≡ lowestPart (modelIn m) (instanceIn i) rule23
+  unfolding modelIn instanceIn lowestPart
+  in-23 e = found-23 (schemasIn m) (typesIn m) (propertiesIn m) (keysIn m) (constraintsIn m) (childrenIn m) (bindingsIn m) (segmentsIn m) (namesIn m) (nodesIn i) (slotsIn i) (itemsIn i) x e
+
+  pub in-24 : x ≡ further (nodeCount (nodesIn i)) (firstFrom (λ s. slot24 (modelOf [] [] (propertiesIn m) [] [] [] [] [] []) (instanceOf [] (slotsIn i) []) s) 0 (slotCount (slotsIn i))) → x ≡ lowestPart (modelIn m) (instanceIn i) rule24
+  unfolding modelIn instanceIn lowestPart
+  in-24 e = found-24 (schemasIn m) (typesIn m) (propertiesIn m) (keysIn m) (constraintsIn m) (childrenIn m) (bindingsIn m) (segmentsIn m) (namesIn m) (nodesIn i) (slotsIn i) (itemsIn i) x e
+
+  pub in-25 : x ≡ further (nodeCount (nodesIn i) + slotCount (slotsIn i)) (firstFrom (λ k. item25 (modelOf [] (typesIn m) (propertiesIn m) [] [] [] [] [] []) (instanceOf (nodesIn i) (slotsIn i) (itemsIn i)) k) 0 (itemCount (itemsIn i))) → x ≡ lowestPart (modelIn m) (instanceIn i) rule25
+  unfolding modelIn instanceIn lowestPart
+  in-25 e = found-25 (schemasIn m) (typesIn m) (propertiesIn m) (keysIn m) (constraintsIn m) (childrenIn m) (bindingsIn m) (segmentsIn m) (namesIn m) (nodesIn i) (slotsIn i) (itemsIn i) x e
+
+  pub in-26 : x ≡ firstFrom (λ w. node26 (modelOf [] (typesIn m) (propertiesIn m) [] [] [] [] [] []) (instanceOf (nodesIn i) (slotsIn i) (itemsIn i)) w) 0 (nodeCount (nodesIn i)) → x ≡ lowestPart (modelIn m) (instanceIn i) rule26
+  unfolding modelIn instanceIn lowestPart
+  in-26 e = found-26 (schemasIn m) (typesIn m) (propertiesIn m) (keysIn m) (constraintsIn m) (childrenIn m) (bindingsIn m) (segmentsIn m) (namesIn m) (nodesIn i) (slotsIn i) (itemsIn i) x e
+
+-- ---- the rules one after the other
+-- The stages from a rule on, so many of them.
+unfoldable pub stagesFrom : Model → Instance → ℕ → ℕ → List Stage
+stagesFrom m i rule zero = []
+stagesFrom m i rule (suc left) = each rule (placedPart m i (ruleNo rule)) ∷ stagesFrom m i (rule + 1) left
+
+-- The rules below number n are unbroken: the verdict is that of the rules from n on.
+pub record Clear (m : Model) (i : Instance) (o : Answer) (n : ℕ) : Type 0 where
+  pub from : 21 ≤ n
+  pub most : n ≤ 27
+  pub rest : verdict (parts i) (instanceStages m i) o ≡ verdict (parts i) (stagesFrom m i n (27 - n)) o
+
+one-more : (n : ℕ) → n < 27 → 27 - n ≡ suc (27 - (n + 1))
+one-more n h = omega arith
+
+module _ (m : Model) (i : Instance) (o : Answer) where
+  pub clear-start : Clear m i o 21
+  unfolding instanceStages stagesFrom ruleNo
+  clear-start = record { from = omega arith; most = omega arith; rest = refl }
+
+  module _ (n x : ℕ) (c : Clear m i o n) (h : n < 27) (e : x ≡ lowestPart m i (ruleNo n)) where
+    pub clear-next : x ≡ 0 → Clear m i o (n + 1)
+    unfolding stagesFrom lowestPart
+    clear-next z = record {
+      from = omega (arith, c .from);
+      most = omega arith;
+      rest = c .rest ∙ rw (one-more n h) (sym (stage-next (parts i) n x (placedPart m i (ruleNo n)) (stagesFrom m i (n + 1) (27 - (n + 1))) o _ e z refl));
+    }
+
+    pub clear-broken : (x ≡ 0 → ⊥) → refused n (x - 1) ≡ verdict (parts i) (instanceStages m i) o
+    unfolding stagesFrom lowestPart
+    clear-broken z = stage-hit (parts i) n x (placedPart m i (ruleNo n)) (stagesFrom m i (n + 1) (27 - (n + 1))) o e z ∙ sym (c .rest ∙ rw (one-more n h))
+
+  pub clear-all : (n : ℕ) → Clear m i o n → 27 ≤ n → o ≡ verdict (parts i) (instanceStages m i) o
+  unfolding stagesFrom verdict
+  clear-all n c h = let z : 27 - n ≡ 0 = omega arith in sym (c .rest ∙ rw z)

@@ -1,0 +1,40 @@
+use mathlib.Core.Path.{sym, _∙_}
+use Rattle.csdl.specs.Conforms.{instanceAnswer, instanceThen}
+use Rattle.csdl.specs.Verdict.{instanceMeans}
+use Rattle.instance_check.proofs.Then.{then-on, model-passes, model-stops}
+use borrow.Author.Needs.{needs}
+use Rattle.instance_check.proofs.check_instance.Statement.{statement}
+use Rattle.instance_check.proofs.check_instance.Tie as tie
+
+check-rules-requires : tie.Need-check-rules-requires
+check-rules-requires c κs = search needs
+
+enum-told : tie.Need-enum-told
+enum-told c = search needs
+
+check-parts-requires : tie.Need-check-parts-requires
+check-parts-requires c κs = model-passes (c .before .before .before .before .before .args .model .now) _ _ _ (c .before .before .check-rules .ensures) (c .enum-told .given .1) .kept1
+
+enum-known-answer : tie.Need-enum-known-answer
+enum-known-answer c = search needs
+
+returns : tie.Need-returns
+unfolding instanceAnswer instanceThen
+returns c =
+    let m = c .before .before .before .before .before .before .args .model .now in
+    c .check-parts .ensures ∙ sym (then-on m _ (model-passes m _ _ _ (c .before .before .before .check-rules .ensures) (c .before .enum-told .given .1)))
+
+returns-2 : tie.Need-returns-2
+unfolding instanceAnswer instanceThen instanceMeans
+returns-2 c = sym (model-stops (c .before .before .before .before .before .before .args .model .now) _ _ _ _ _ (c .before .before .before .check-rules .ensures) (c .before .answer .given .1))
+
+pub check-instance-spec : {M : Type 1} → statement M
+check-instance-spec =
+    tie.close
+    (tie.spec
+    check-rules-requires
+    enum-told
+    check-parts-requires
+    enum-known-answer
+    returns
+    returns-2)

@@ -1,0 +1,4 @@
+pub mod Climbing
+pub mod Bridge
+pub mod Closing
+pub mod RowLaws

@@ -1,0 +1,3 @@
+pub mod Graph
+pub mod Rows
+pub mod Integrals

@@ -1,0 +1,23 @@
+// Arrays of numbers, each 0 for none, else a number plus 1: the slot of each item, and the node of each slot.
+ghost use mathlib.Core.Path.{_≡_};
+ghost use lib.ListN.{getD};
+ghost use Rattle.instance_containment.specs.Graph as graph;
+use model_image::fields::less_one;
+
+// Entry k of an array, or 0 past the end.
+pub fn read_at(array: &[u16], k: u16) -> u16
+    ensures { λ r. ⌜ r ≡ getD (now (array .entry)) k 0 ⌝ }
+{
+    let at = k as usize;
+    if at < array.len() {
+        return array[at];
+    }
+    0
+}
+
+// The node in whose slot item k stands.
+pub fn node_of(slots: &[u16], nodes: &[u16], k: u16) -> u16
+    ensures { λ r. ⌜ r ≡ graph.nodeIn (now (slots .entry)) (now (nodes .entry)) k ⌝ }
+{
+    read_at(nodes, less_one(read_at(slots, k)))
+}

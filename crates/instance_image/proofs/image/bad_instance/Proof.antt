@@ -1,0 +1,15 @@
+use borrow.Author.Needs.{needs}
+use Rattle.csdl.specs.Instance.{image20}
+use Rattle.instance_image.proofs.image.bad_instance.Statement.{statement}
+use Rattle.instance_image.proofs.image.bad_instance.Tie as tie
+
+returns : tie.Need-returns
+unfolding image20
+returns c = cc
+
+pub bad-instance-spec : {M : Type 1} → statement M
+bad-instance-spec =
+    tie.close
+    (tie.spec (λ c κs. search needs) (λ c κs. search needs) (λ c κs. search needs) (λ c κs. search needs) (λ c. search needs) (λ c. search needs)
+    (λ c. search needs) (λ c. search needs) (λ c. search needs) (λ c. search needs) (λ c. search needs) (λ c. search needs) (λ c. search needs)
+    returns)

@@ -1,3 +1,0 @@
-pub mod SetLaws
-pub mod Line
-pub mod Owners

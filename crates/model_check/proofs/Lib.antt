@@ -1,0 +1,4 @@
+pub mod Writing
+pub mod Whole
+pub mod Answers
+pub mod Last

@@ -1,0 +1,312 @@
+// The rules 3 to 19 of a model, each as the lowest place that breaks it: 0 for none, else the place plus 1. The tables that a rule reads are cut
+// from the image where it is asked. Rule 14, which keeps what the segments resolve to, is asked by the check.
+pub mod places;
+
+ghost use mathlib.Core.Path.{_≡_};
+ghost use mathlib.Core.List.{[]};
+ghost use Rattle.csdl.specs.Search.{firstFrom, orElse};
+ghost use Rattle.csdl.specs.Tables.{propertyCount};
+ghost use Rattle.csdl.specs.Model.{modelOf};
+ghost use Rattle.csdl.specs.Image.{modelIn};
+ghost use Rattle.csdl.specs.Form.{rule3, rule4, rule5, rule6, rule7};
+ghost use Rattle.csdl.specs.Types.{rule8, rule9};
+ghost use Rattle.csdl.specs.Properties.{property11, rule10, rule11, rule12};
+ghost use Rattle.csdl.specs.Paths.{rule13, rule15, rule16, rule17, rule18, rule19};
+ghost use Rattle.path_resolution.specs.Coded.{Coded};
+ghost use Rattle.lookup.specs.Index.{Indexed};
+ghost use Rattle.model_rules.specs.Stages as stages;
+ghost use Rattle.model_rules.specs.Stages.{lowestPlace};
+ghost use Rattle.model_image.specs.Laid.{Laid};
+ghost use Rattle.rules_segments.specs.Indexes.{IndexIn};
+ghost use Rattle.model_image.specs.Limits.{FewTypes, FewProperties};
+use crate::places::placed;
+use model_image::layout::Layout;
+use model_image::layout::bindings_of;
+use model_image::layout::children_of;
+use model_image::layout::constraints_of;
+use model_image::layout::keys_of;
+use model_image::layout::names_of;
+use model_image::layout::properties_of;
+use model_image::layout::record_at;
+use model_image::layout::schemas_of;
+use model_image::layout::segments_of;
+use model_image::layout::types_of;
+use model_image::properties::property_count;
+use rules_bindings::bindings::first_19;
+use rules_bindings::children::first_child_18;
+use rules_bindings::children::first_property_18;
+use rules_bindings::partners::first_17;
+use rules_fields::numbers::rule_4;
+use rules_fields::spare::rule_3;
+use rules_keys::constraints::first_16;
+use rules_keys::keys::first_15;
+use rules_names::names::rule_5;
+use rules_names::repeats::first_child_7;
+use rules_names::repeats::first_type_7;
+use rules_names::schemas::first_6;
+use rules_redeclaration::property_11;
+use rules_required_cycle::required::first_12;
+use rules_segments::cover::first_13;
+use rules_types::properties::first_10;
+use rules_types::types::first_8;
+use rules_types::types::first_9;
+
+// Rule 3, of every record.
+pub fn lowest_3(image: &[u8], at: Layout) -> u16
+    requires { ⌜ Laid (now image) at ⌝ }
+    ensures { λ r. ⌜ r ≡ lowestPlace (modelIn (now (image .entry))) rule3 ⌝ }
+{
+    let n = at.places;
+    let mut place: u16 = 0;
+    while place < n {
+        let rec = record_at(at, place);
+        if rule_3(image, at, rec) {
+            return place + 1;
+        }
+        place += 1;
+    }
+    0
+}
+
+// Rule 4, of every record.
+pub fn lowest_4(image: &[u8], at: Layout) -> u16
+    requires { ⌜ Laid (now image) at ⌝ }
+    ensures { λ r. ⌜ r ≡ lowestPlace (modelIn (now (image .entry))) rule4 ⌝ }
+{
+    let n = at.places;
+    let mut place: u16 = 0;
+    while place < n {
+        let rec = record_at(at, place);
+        if rule_4(image, at, rec) {
+            return place + 1;
+        }
+        place += 1;
+    }
+    0
+}
+
+// Rule 5, of every record.
+pub fn lowest_5(image: &[u8], at: Layout) -> u16
+    requires { ⌜ Laid (now image) at ⌝ }
+    ensures { λ r. ⌜ r ≡ lowestPlace (modelIn (now (image .entry))) rule5 ⌝ }
+{
+    let n = at.places;
+    let mut place: u16 = 0;
+    while place < n {
+        let rec = record_at(at, place);
+        if rule_5(image, at, rec) {
+            return place + 1;
+        }
+        place += 1;
+    }
+    0
+}
+
+// Whether rules 3 to 5 are unbroken at every place.
+pub fn formed(image: &[u8], at: Layout) -> bool
+    requires { ⌜ Laid (now image) at ⌝ }
+    ensures { λ r. ⌜ r ≡ stages.formed (modelIn (now (image .entry))) ⌝ }
+{
+    (lowest_3(image, at) == 0) & (lowest_4(image, at) == 0) & (lowest_5(image, at) == 0)
+}
+
+// The first of two searches that found something: 0 for none, else a place plus 1.
+fn earlier(a: u16, b: u16) -> u16
+    ensures { λ r. ⌜ r ≡ orElse a b ⌝ }
+{
+    if a == 0 { b } else { a }
+}
+
+// Rule 6, of schemas.
+pub fn lowest_6(image: &[u8], at: Layout) -> u16
+    requires { ⌜ Laid (now image) at ⌝ }
+    ensures { λ r. ⌜ r ≡ lowestPlace (modelIn (now (image .entry))) rule6 ⌝ }
+{
+    placed(0, first_6(schemas_of(image, at), names_of(image, at)))
+}
+
+// Rule 7, of types and children.
+pub fn lowest_7(image: &[u8], at: Layout) -> u16
+    requires { ⌜ Laid (now image) at ⌝ }
+    ensures { λ r. ⌜ r ≡ lowestPlace (modelIn (now (image .entry))) rule7 ⌝ }
+{
+    let names = names_of(image, at);
+    earlier(
+        placed(at.types_place, first_type_7(types_of(image, at), names)),
+        placed(
+            at.children_place,
+            first_child_7(children_of(image, at), names),
+        ),
+    )
+}
+
+// Rule 8, of types.
+pub fn lowest_8(image: &[u8], at: Layout) -> u16
+    requires { ⌜ Laid (now image) at ⌝ }
+    ensures { λ r. ⌜ r ≡ lowestPlace (modelIn (now (image .entry))) rule8 ⌝ }
+{
+    placed(at.types_place, first_8(types_of(image, at)))
+}
+
+// Rule 9, of types.
+pub fn lowest_9(image: &[u8], at: Layout) -> u16
+    requires { ⌜ Laid (now image) at ⌝ }
+    ensures { λ r. ⌜ r ≡ lowestPlace (modelIn (now (image .entry))) rule9 ⌝ }
+{
+    placed(at.types_place, first_9(types_of(image, at)))
+}
+
+// Rule 10, of properties.
+pub fn lowest_10(image: &[u8], at: Layout) -> u16
+    requires { ⌜ Laid (now image) at ⌝ }
+    ensures { λ r. ⌜ r ≡ lowestPlace (modelIn (now (image .entry))) rule10 ⌝ }
+{
+    placed(
+        at.properties_place,
+        first_10(types_of(image, at), properties_of(image, at)),
+    )
+}
+
+// The first property that breaks rule 11: 0 for none, else its number plus 1.
+fn first_11(types: &[u8], properties: &[u8], names: &[u8], index: &[u16]) -> u16
+    requires { ⌜ FewTypes (now types) × FewProperties (now properties) × Indexed (now properties) (now names) (now index) ⌝ }
+    ensures { λ r. ⌜ r ≡ firstFrom (λ p. property11 (modelOf [] (now (types .entry)) (now (properties .entry)) [] [] [] [] [] (now (names .entry))) p) 0 (propertyCount (now (properties .entry))) ⌝ }
+{
+    let n = property_count(properties);
+    let mut p: u16 = 0;
+    while p < n {
+        if property_11(types, properties, names, index, p) {
+            return p + 1;
+        }
+        p += 1;
+    }
+    0
+}
+
+// Rule 11, of properties, which goes along the index.
+pub fn lowest_11(image: &[u8], at: Layout, index: &[u16]) -> u16
+    requires { ⌜ Laid (now image) at × IndexIn (now image) (now index) ⌝ }
+    ensures { λ r. ⌜ r ≡ lowestPlace (modelIn (now (image .entry))) rule11 ⌝ }
+{
+    placed(
+        at.properties_place,
+        first_11(
+            types_of(image, at),
+            properties_of(image, at),
+            names_of(image, at),
+            index,
+        ),
+    )
+}
+
+// Rule 12, of types.
+pub fn lowest_12(image: &[u8], at: Layout) -> u16
+    requires { ⌜ Laid (now image) at ⌝ }
+    ensures { λ r. ⌜ r ≡ lowestPlace (modelIn (now (image .entry))) rule12 ⌝ }
+{
+    placed(
+        at.types_place,
+        first_12(types_of(image, at), properties_of(image, at)),
+    )
+}
+
+// Rule 13, of segments.
+pub fn lowest_13(image: &[u8], at: Layout) -> u16
+    requires { ⌜ Laid (now image) at ⌝ }
+    ensures { λ r. ⌜ r ≡ lowestPlace (modelIn (now (image .entry))) rule13 ⌝ }
+{
+    placed(
+        at.segments_place,
+        first_13(
+            properties_of(image, at),
+            keys_of(image, at),
+            constraints_of(image, at),
+            bindings_of(image, at),
+            segments_of(image, at),
+        ),
+    )
+}
+
+// Rule 15, of keys, by the codes of all segments.
+pub fn lowest_15(image: &[u8], at: Layout, index: &[u16], codes: &[u32]) -> u16
+    requires { ⌜ Laid (now image) at × IndexIn (now image) (now index) × Coded (modelIn (now image)) (now codes) ⌝ }
+    ensures { λ r. ⌜ r ≡ lowestPlace (modelIn (now (image .entry))) rule15 ⌝ }
+{
+    placed(
+        at.keys_place,
+        first_15(
+            types_of(image, at),
+            properties_of(image, at),
+            keys_of(image, at),
+            segments_of(image, at),
+            names_of(image, at),
+            index,
+            codes,
+        ),
+    )
+}
+
+// Rule 16, of constraints.
+pub fn lowest_16(image: &[u8], at: Layout, codes: &[u32]) -> u16
+    requires { ⌜ Laid (now image) at × Coded (modelIn (now image)) (now codes) ⌝ }
+    ensures { λ r. ⌜ r ≡ lowestPlace (modelIn (now (image .entry))) rule16 ⌝ }
+{
+    placed(
+        at.constraints_place,
+        first_16(
+            types_of(image, at),
+            properties_of(image, at),
+            constraints_of(image, at),
+            codes,
+        ),
+    )
+}
+
+// Rule 17, of properties.
+pub fn lowest_17(image: &[u8], at: Layout, codes: &[u32]) -> u16
+    requires { ⌜ Laid (now image) at × Coded (modelIn (now image)) (now codes) ⌝ }
+    ensures { λ r. ⌜ r ≡ lowestPlace (modelIn (now (image .entry))) rule17 ⌝ }
+{
+    placed(
+        at.properties_place,
+        first_17(types_of(image, at), properties_of(image, at), codes),
+    )
+}
+
+// Rule 18, of properties and children.
+pub fn lowest_18(image: &[u8], at: Layout) -> u16
+    requires { ⌜ Laid (now image) at ⌝ }
+    ensures { λ r. ⌜ r ≡ lowestPlace (modelIn (now (image .entry))) rule18 ⌝ }
+{
+    let types = types_of(image, at);
+    let keys = keys_of(image, at);
+    earlier(
+        placed(
+            at.properties_place,
+            first_property_18(types, properties_of(image, at), keys),
+        ),
+        placed(
+            at.children_place,
+            first_child_18(types, keys, children_of(image, at)),
+        ),
+    )
+}
+
+// Rule 19, of bindings.
+pub fn lowest_19(image: &[u8], at: Layout, codes: &[u32]) -> u16
+    requires { ⌜ Laid (now image) at × Coded (modelIn (now image)) (now codes) ⌝ }
+    ensures { λ r. ⌜ r ≡ lowestPlace (modelIn (now (image .entry))) rule19 ⌝ }
+{
+    placed(
+        at.bindings_place,
+        first_19(
+            types_of(image, at),
+            properties_of(image, at),
+            children_of(image, at),
+            bindings_of(image, at),
+            segments_of(image, at),
+            names_of(image, at),
+            codes,
+        ),
+    )
+}

@@ -1,0 +1,13 @@
+use native.Mathlib.Omega.{arith}
+use lib.Bits.{and-mask}
+use Rattle.packed.proofs.low_byte.Statement.{statement}
+use Rattle.packed.proofs.low_byte.Tie as tie
+
+cast-result : tie.Need-cast-result
+cast-result c = omega (arith, and-mask (c .args .x) 8)
+
+returns : tie.Need-returns
+returns c = and-mask (c .args .x) 8
+
+pub low-byte-spec : {M : Type 1} → statement M
+low-byte-spec = tie.close (tie.spec cast-result returns)

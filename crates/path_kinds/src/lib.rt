@@ -1,0 +1,2 @@
+// The six kinds of path: which records hold one, where it starts, which segments it has.
+pub mod kinds;

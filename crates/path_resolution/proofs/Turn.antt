@@ -1,0 +1,106 @@
+-- A path resolved so far, and one segment more. Assumes nothing.
+use Prim.Native.Nat.{ℕ, zero, suc, _+_, _-_, _≤_, _<_}
+use mathlib.Core.Path.{_≡_, refl, sym, _∙_}
+use mathlib.Core.List.{List}
+use mathlib.Core.Bool.{Bool, true, false, cond, _&&_, and-true, and-false}
+use native.Mathlib.Nat.{not-suc-le-zero}
+use native.Mathlib.Numerals.{add-one}
+use native.Mathlib.Omega.{arith}
+use lib.Dec.{eqb, ltb, leb}
+use lib.ListN.{length, getD, set, length-set, replicate, length-replicate, getD-replicate}
+use lib.Seq.{getD-set-same, getD-set-other}
+use borrow.Author.Tests.{le-leb, lt-leb, lt-ltb, le-ltb, eqb-true, eqb-false}
+use borrow.Author.Count.{below-more}
+use Rattle.csdl.specs.Search.{tab}
+use Rattle.csdl.specs.Model.{Model}
+use Rattle.csdl.specs.Path.{segmentAt, stepAt, movesTo, resolvesAt, resolves, endOf, alongAll, alongEnd}
+use Rattle.csdl.specs.Verdict.{stepCode}
+use Rattle.path_resolution.specs.Resolution.{ResolvedTo, prefix, stepNo, codeAt, codesTo, resolvedCount}
+use Rattle.name_classes.proofs.Sorting.{split}
+use Rattle.name_classes.proofs.Counting.{count-front}
+use Rattle.lookup.proofs.Tables.{is-tab}
+use Rattle.path_resolution.proofs.Laws.{end-more, all-more}
+
+most-next : (b : Bool) (taken k : ℕ) → taken ≤ k → cond b (k + 1) taken ≤ k + 1
+most-next true taken k h = omega arith
+most-next false taken k h = omega arith
+
+-- the segments before number k resolve as far as before
+reach-old : (j k taken : ℕ) (ok : Bool) → j ≤ k → leb j taken ≡ leb j (cond (ok && eqb taken k) (k + 1) taken)
+reach-old j k taken false h = refl
+reach-old j k taken true h = go (eqb taken k) refl
+  where
+    go : (q : Bool) → eqb taken k ≡ q → leb j taken ≡ leb j (cond q (k + 1) taken)
+    go false e = refl
+    go true e =
+        let z : taken ≡ k = eqb-true taken k e in
+        le-leb j taken (omega arith) ∙ sym (le-leb j (k + 1) (omega arith))
+
+-- and segment k resolves if it does and they do
+reach-new : (k taken : ℕ) (ok : Bool) → taken ≤ k → (leb k taken && ok) ≡ leb (k + 1) (cond (ok && eqb taken k) (k + 1) taken)
+reach-new k taken false h = rw (and-false, lt-leb (k + 1) taken (omega arith))
+reach-new k taken true h = rw and-true (go (eqb taken k) refl)
+  where
+    go : (q : Bool) → eqb taken k ≡ q → leb k taken ≡ leb (k + 1) (cond q (k + 1) taken)
+    go false e =
+        let n : taken ≡ k → ⊥ = eqb-false taken k e in
+        lt-leb k taken (omega (arith, n)) ∙ sym (lt-leb (k + 1) taken (omega arith))
+    go true e =
+        let z : taken ≡ k = eqb-true taken k e in
+        le-leb k taken (omega arith) ∙ sym (le-leb (k + 1) (k + 1) (omega arith))
+
+module _ (m : Model) (start first : ℕ) where
+  pub resolved-start : ResolvedTo m start first 0 (replicate 16 0) 0 start
+  unfolding tab alongAll alongEnd
+  resolved-start =
+      record {
+        size = length-replicate {A = ℕ} 16 0;
+        code = λ k h. absurd (not-suc-le-zero h);
+        rest = λ k h l. getD-replicate {A = ℕ} 16 k 0 0 l;
+        most = omega arith;
+        reach = λ k h. let z : k ≡ 0 = omega arith in rw z;
+        goal = refl;
+      }
+
+  module _ (codes : List ℕ) (taken t k : ℕ) (old : ResolvedTo m start first k codes taken t) where
+    reach-next : (ok : Bool) → ok ≡ resolvesAt m t (segmentAt m (first + k)) → (j : ℕ) → j < k + 1 + 1
+        → resolves m start (prefix m first j) ≡ leb j (cond (ok && eqb taken k) (k + 1) taken)
+    reach-next ok e =
+        below-more (λ j. resolves m start (prefix m first j) ≡ leb j (cond (ok && eqb taken k) (k + 1) taken)) (k + 1)
+        (λ j h. old .reach j (omega arith) ∙ reach-old j k taken ok (omega arith))
+        (rw (add-one k, all-more (λ u g. movesTo m u g) (λ g. segmentAt m g) (λ u g. resolvesAt m u g) start first k, old .reach k (omega arith), ← old .goal, ← e, ← add-one k)
+        (reach-new k taken ok (old .most)))
+
+    pub resolved-next : {ok : Bool} {code to : ℕ} → k < 16 → ok ≡ resolvesAt m t (segmentAt m (first + k)) → code ≡ stepCode (stepAt m t (segmentAt m (first + k)))
+        → to ≡ movesTo m t (segmentAt m (first + k)) → ResolvedTo m start first (k + 1) (set codes k code) (cond (ok && eqb taken k) (k + 1) taken) to
+    unfolding codeAt stepNo
+    resolved-next {ok} {code} {to} h e f g =
+        record {
+          size = rw length-set (old .size);
+          code =
+              below-more (λ j. getD (set codes k code) j 0 ≡ codeAt m start first j) k
+              (λ j lt. getD-set-other codes k j code 0 (λ q. let z : j ≡ k = q in omega arith) ∙ old .code j lt)
+              (getD-set-same codes k code 0 (omega (arith, old .size)) ∙ rw (← old .goal) f);
+          rest = λ j a b. getD-set-other codes k j code 0 (λ q. let z : j ≡ k = q in omega arith) ∙ old .rest j (omega arith) b;
+          most = most-next (ok && eqb taken k) taken k (old .most);
+          reach = λ j le. reach-next ok e j (omega arith);
+          goal = rw (add-one k, end-more (λ u x. movesTo m u x) (λ x. segmentAt m x) start first k, ← old .goal) g;
+        }
+
+  -- What the path resolves to, all of it.
+  module _ (count : ℕ) (codes : List ℕ) (taken end : ℕ) (t : ResolvedTo m start first count codes taken end) (few : count ≤ 16) where
+    codes-are : codes ≡ codesTo m start first count
+    unfolding codesTo
+    codes-are =
+        is-tab (λ k. cond (ltb k count) (codeAt m start first k) 0) 16 codes (t .size)
+        (λ k h. split k count (λ l. rw (lt-ltb k count l) (t .code k l)) (λ l. rw (le-ltb k count l) (t .rest k l h)))
+
+    taken-is : taken ≡ resolvedCount m start first count
+    unfolding resolvedCount
+    taken-is =
+        sym (count-front (λ k. resolves m start (prefix m first (k + 1))) count taken (t .most)
+        (λ k h. t .reach (k + 1) (omega (arith, t .most)) ∙ le-leb (k + 1) taken (omega arith))
+        (λ k h l. t .reach (k + 1) (omega arith) ∙ lt-leb (k + 1) taken (omega arith)))
+
+    pub resolved-is : (codes ≡ codesTo m start first count) × (taken ≡ resolvedCount m start first count) × (end ≡ endOf m start (prefix m first count))
+    resolved-is = (codes-are, taken-is, t .goal)

@@ -1,0 +1,152 @@
+// Resolving the segments of a path in order.
+ghost use mathlib.Core.Path.{_≡_};
+ghost use mathlib.Core.List.{[]};
+ghost use mathlib.Core.Bool.{cond, _&&_};
+ghost use Prim.Native.Nat.{_<_, _-_, _+_};
+ghost use lib.Dec.{eqb};
+ghost use Rattle.lookup.specs.AncestorSets.{setsOf};
+ghost use Rattle.lookup.specs.Index.{Indexed};
+ghost use Rattle.csdl.specs.Model.{modelOf};
+ghost use Rattle.csdl.specs.Find as find;
+ghost use Rattle.csdl.specs.Path.{segmentAt, resolvesAt, stepAt, movesTo, endOf};
+ghost use Rattle.csdl.specs.Verdict.{stepCode};
+ghost use Rattle.path_resolution.specs.Resolution.{ResolvedTo, prefix, codesTo, resolvedCount};
+ghost use Rattle.model_image.specs.Limits.{FewProperties, FewTypes};
+use crate::wide::ancestor_or_self;
+use crate::wide::structured;
+use lookup::names::find_on;
+use lookup::texts::segment_text;
+use model_image::fields::less_one;
+use model_image::properties::property_type_ref;
+use model_image::segments::segment_cast;
+use model_image::segments::segment_type;
+
+// Where a path stands: a type reference, and the segment to take.
+struct Here {
+    t: u32,
+    g: u16,
+}
+
+// One segment resolved: whether it does, its code, and the type reference that it moves to.
+struct Move {
+    ok: bool,
+    code: u32,
+    to: u32,
+}
+
+// A path to resolve: the type reference at which it starts, its first segment, and how many.
+pub struct Way {
+    pub start: u16,
+    pub first: u16,
+    pub count: u16,
+}
+
+// The codes of the segments (a property's number, or 32768 + type for a cast), how many segments resolve before the first that
+// does not, and the type reference at the end.
+pub struct Resolved {
+    pub codes: [u32; 16],
+    pub taken: u16,
+    pub end: u32,
+}
+
+// Whether a cast to c resolves at t.
+fn cast_resolves(types: &[u8], t: u32, c: u32) -> bool
+    requires { ⌜ FewTypes (now types) ⌝ }
+    ensures { λ r. ⌜ r ≡ (find.structured (modelOf [] (now (types .entry)) [] [] [] [] [] [] []) c && find.ancestorOrSelf (modelOf [] (now (types .entry)) [] [] [] [] [] [] []) t c) ⌝ }
+{
+    if structured(types, c) {
+        return ancestor_or_self(types, t, c);
+    }
+    false
+}
+
+// The segment resolved.
+fn move_at(
+    types: &[u8],
+    properties: &[u8],
+    segments: &[u8],
+    names: &[u8],
+    index: &[u16],
+    ancestors: &[u64],
+    here: Here,
+) -> Move
+    requires { ⌜ FewTypes (now types) × FewProperties (now properties) × Indexed (now properties) (now names) (now index) × (now ancestors ≡ setsOf (now types)) ⌝ }
+    ensures { λ r. ⌜ r .ok ≡ resolvesAt (modelOf [] (now (types .entry)) (now (properties .entry)) [] [] [] [] (now (segments .entry)) (now (names .entry))) (here .t) (segmentAt (modelOf [] (now (types .entry)) (now (properties .entry)) [] [] [] [] (now (segments .entry)) (now (names .entry))) (here .g)) ⌝ }
+    ensures { λ r. ⌜ r .code ≡ stepCode (stepAt (modelOf [] (now (types .entry)) (now (properties .entry)) [] [] [] [] (now (segments .entry)) (now (names .entry))) (here .t) (segmentAt (modelOf [] (now (types .entry)) (now (properties .entry)) [] [] [] [] (now (segments .entry)) (now (names .entry))) (here .g))) ⌝ }
+    ensures { λ r. ⌜ r .to ≡ movesTo (modelOf [] (now (types .entry)) (now (properties .entry)) [] [] [] [] (now (segments .entry)) (now (names .entry))) (here .t) (segmentAt (modelOf [] (now (types .entry)) (now (properties .entry)) [] [] [] [] (now (segments .entry)) (now (names .entry))) (here .g)) ⌝ }
+{
+    let t = here.t;
+    let g = here.g;
+    if segment_cast(segments, g) {
+        let c = segment_type(segments, g);
+        let ok = cast_resolves(types, t, c);
+        return Move {
+            ok,
+            code: 32768 + c,
+            to: c,
+        };
+    }
+    let found = find_on(
+        types,
+        properties,
+        names,
+        index,
+        ancestors,
+        segment_text(segments, names, g),
+        t,
+    );
+    let p = less_one(found);
+    let ok = structured(types, t) & (found != 0);
+    let to = property_type_ref(properties, p);
+    Move {
+        ok,
+        code: p as u32,
+        to: to as u32,
+    }
+}
+
+// One segment more resolves only if all before it do.
+fn taken_on(ok: bool, taken: u16, k: u16) -> u16
+    requires { ⌜ k < 16 ⌝ }
+    ensures { λ r. ⌜ r ≡ cond (ok && eqb taken k) (k + 1) taken ⌝ }
+{
+    if ok & (taken == k) {
+        return k + 1;
+    }
+    taken
+}
+
+// The path resolved.
+pub fn resolve_path(
+    types: &[u8],
+    properties: &[u8],
+    segments: &[u8],
+    names: &[u8],
+    index: &[u16],
+    ancestors: &[u64],
+    way: Way,
+) -> Resolved
+    requires { ⌜ FewTypes (now types) × FewProperties (now properties) × (way .first < 2048) × (way .count < 16) × Indexed (now properties) (now names) (now index) × (now ancestors ≡ setsOf (now types)) ⌝ }
+    ensures { λ r. ⌜ ResolvedTo (modelOf [] (now (types .entry)) (now (properties .entry)) [] [] [] [] (now (segments .entry)) (now (names .entry))) (way .start) (way .first) (way .count) (r .codes) (r .taken) (r .end) ⌝ }
+    ensures { λ r. ⌜ (r .codes ≡ codesTo (modelOf [] (now (types .entry)) (now (properties .entry)) [] [] [] [] (now (segments .entry)) (now (names .entry))) (way .start) (way .first) (way .count)) × (r .taken ≡ resolvedCount (modelOf [] (now (types .entry)) (now (properties .entry)) [] [] [] [] (now (segments .entry)) (now (names .entry))) (way .start) (way .first) (way .count)) × (r .end ≡ endOf (modelOf [] (now (types .entry)) (now (properties .entry)) [] [] [] [] (now (segments .entry)) (now (names .entry))) (way .start) (prefix (modelOf [] (now (types .entry)) (now (properties .entry)) [] [] [] [] (now (segments .entry)) (now (names .entry))) (way .first) (way .count))) ⌝ }
+{
+    let first = way.first;
+    let count = way.count;
+    let mut codes = [0u32; 16];
+    let mut taken: u16 = 0;
+    let mut t: u32 = way.start as u32;
+    let mut k: u16 = 0;
+    while k < count {
+        let at = Here { t, g: first + k };
+        let here = move_at(types, properties, segments, names, index, ancestors, at);
+        codes[k as usize] = here.code;
+        taken = taken_on(here.ok, taken, k);
+        t = here.to;
+        k += 1;
+    }
+    Resolved {
+        codes,
+        taken,
+        end: t,
+    }
+}

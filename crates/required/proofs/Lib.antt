@@ -1,5 +1,0 @@
-pub mod Frame
-pub mod Gather
-pub mod Rounds
-pub mod Steps
-pub mod Closing

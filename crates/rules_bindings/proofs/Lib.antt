@@ -1,0 +1,6 @@
+pub mod PathMarks
+pub mod Comparing
+pub mod LastName
+pub mod PartnerPaths
+pub mod BindingPaths
+pub mod Split

@@ -1,0 +1,4 @@
+pub mod Digests
+pub mod Runs
+pub mod Partners
+pub mod Bindings

@@ -1,0 +1,141 @@
+// Rule 19: bindings.
+ghost use mathlib.Core.Path.{_≡_};
+ghost use mathlib.Core.List.{[]};
+ghost use Prim.Native.Nat.{_+_, _≤_};
+ghost use Rattle.csdl.specs.Search.{firstFrom};
+ghost use Rattle.csdl.specs.Tables.{bindingCount};
+ghost use Rattle.csdl.specs.Model.{modelOf};
+ghost use Rattle.csdl.specs.Paths.{binding19d, binding19e};
+ghost use Rattle.rules_names.specs.Digests.{Marked};
+ghost use Rattle.rules_bindings.specs.Digests.{bindingMark};
+ghost use Rattle.rules_bindings.specs.Bindings.{againBound, bindingMisled, bindingCoded};
+ghost use Rattle.model_image.specs.Limits.{FewBindings, FewTypes};
+use crate::forms::binding_codes;
+use crate::forms::ends_apart;
+use crate::forms::target_codes;
+use crate::same::path_digest;
+use crate::same::same_segments;
+use model_image::bindings::binding_child;
+use model_image::bindings::binding_count;
+use model_image::bindings::binding_path;
+use model_image::bindings::binding_target;
+use model_image::bindings::binding_target_path;
+use model_image::children::child_singleton;
+use model_image::children::child_type;
+use path_resolution::codes::end_of;
+use path_resolution::codes::run_of;
+
+// The mark of binding b.
+fn binding_mark(bindings: &[u8], segments: &[u8], names: &[u8], b: u16) -> u64
+    ensures { λ r. ⌜ r ≡ bindingMark (modelOf [] [] [] [] [] [] (now (bindings .entry)) (now (segments .entry)) (now (names .entry))) b ⌝ }
+{
+    let run = binding_path(bindings, b);
+    let g = run.first;
+    let n = run.count;
+    (binding_child(bindings, b) as u64) * 4294967296 + path_digest(segments, names, g, n)
+}
+
+// Whether bindings j and b have the same child and the same path; asked of their marks first.
+fn again_bound(
+    bindings: &[u8],
+    segments: &[u8],
+    names: &[u8],
+    marks: &[u64],
+    j: u16,
+    b: u16,
+) -> bool
+    requires { ⌜ (j ≤ b) × Marked (λ i. bindingMark (modelOf [] [] [] [] [] [] (now bindings) (now segments) (now names)) i) (b + 1) (now marks) ⌝ }
+    ensures { λ r. ⌜ r ≡ againBound (modelOf [] [] [] [] [] [] (now (bindings .entry)) (now (segments .entry)) (now (names .entry))) j b ⌝ }
+{
+    if marks[j as usize] != marks[b as usize] {
+        return false;
+    }
+    if binding_child(bindings, j) != binding_child(bindings, b) {
+        return false;
+    }
+    let x = binding_path(bindings, j);
+    let y = binding_path(bindings, b);
+    let n = y.count;
+    if x.count != n {
+        return false;
+    }
+    let g = x.first;
+    let h = y.first;
+    same_segments(segments, names, g, h, n)
+}
+
+// Whether an earlier binding of the child has the same path (19d).
+fn binding_again(bindings: &[u8], segments: &[u8], names: &[u8], marks: &[u64], b: u16) -> bool
+    requires { ⌜ Marked (λ i. bindingMark (modelOf [] [] [] [] [] [] (now bindings) (now segments) (now names)) i) (b + 1) (now marks) ⌝ }
+    ensures { λ r. ⌜ r ≡ binding19d (modelOf [] [] [] [] [] [] (now (bindings .entry)) (now (segments .entry)) (now (names .entry))) b ⌝ }
+{
+    let mut j: u16 = 0;
+    while j < b {
+        if again_bound(bindings, segments, names, marks, j, b) {
+            return true;
+        }
+        j += 1;
+    }
+    false
+}
+
+// Whether a target path stands under an entity set (19e).
+fn target_under_set(children: &[u8], bindings: &[u8], b: u16) -> bool
+    ensures { λ r. ⌜ r ≡ binding19e (modelOf [] [] [] [] [] (now (children .entry)) (now (bindings .entry)) [] []) b ⌝ }
+{
+    let run = binding_target_path(bindings, b);
+    (run.count != 0) & !child_singleton(children, binding_target(bindings, b))
+}
+
+// Whether the paths of binding b break rule 19 (all of it but 19d), by the codes of all segments.
+fn binding_misled(
+    types: &[u8],
+    properties: &[u8],
+    children: &[u8],
+    bindings: &[u8],
+    codes: &[u32],
+    b: u16,
+) -> bool
+    requires { ⌜ FewTypes (now types) ⌝ }
+    ensures { λ r. ⌜ r ≡ bindingMisled (modelOf [] (now (types .entry)) (now (properties .entry)) [] [] (now (children .entry)) (now (bindings .entry)) [] []) (now (codes .entry)) b ⌝ }
+{
+    let path = binding_path(bindings, b);
+    let run = run_of(codes, path.first, path.count);
+    let fails = binding_codes(types, properties, &run, path.count);
+    let start = child_type(children, binding_child(bindings, b));
+    let end = end_of(properties, &run, start, path.count);
+    let goal = binding_target_path(bindings, b);
+    let goal_run = run_of(codes, goal.first, goal.count);
+    let goal_fails = target_codes(types, properties, &goal_run, goal.count);
+    let goal_start = child_type(children, binding_target(bindings, b));
+    let goal_end = end_of(properties, &goal_run, goal_start, goal.count);
+    fails | target_under_set(children, bindings, b) | goal_fails | ends_apart(types, end, goal_end)
+}
+
+// The first binding that breaks rule 19, by the codes of all segments: 0 for none, else its number plus 1.
+pub fn first_19(
+    types: &[u8],
+    properties: &[u8],
+    children: &[u8],
+    bindings: &[u8],
+    segments: &[u8],
+    names: &[u8],
+    codes: &[u32],
+) -> u16
+    requires { ⌜ FewTypes (now types) × FewBindings (now bindings) ⌝ }
+    ensures { λ r. ⌜ r ≡ firstFrom (λ b. bindingCoded (modelOf [] (now (types .entry)) (now (properties .entry)) [] [] (now (children .entry)) (now (bindings .entry)) (now (segments .entry)) (now (names .entry))) (now (codes .entry)) b) 0 (bindingCount (now (bindings .entry))) ⌝ }
+{
+    let n = binding_count(bindings);
+    let mut marks = [1u64; 128];
+    let mut b: u16 = 0;
+    while b < n {
+        marks[b as usize] = binding_mark(bindings, segments, names, b);
+        if binding_misled(types, properties, children, bindings, codes, b)
+            | binding_again(bindings, segments, names, &marks, b)
+        {
+            return b + 1;
+        }
+        b += 1;
+    }
+    0
+}

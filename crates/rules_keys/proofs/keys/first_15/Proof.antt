@@ -1,0 +1,101 @@
+use borrow.Author.Needs.{needs}
+use Prim.Native.Nat.{_-_, _≤_}
+use mathlib.Core.Path.{_≡_, refl, sym}
+use mathlib.Core.List.{[]}
+use lib.ListN.{length, length-set}
+use native.Mathlib.Omega.{arith}
+use Rattle.csdl.specs.Model.{modelOf}
+use Rattle.csdl.proofs.Loops.{First, first-start, first-hit, first-next, first-end}
+use Rattle.rules_names.specs.Digests.{Marked}
+use Rattle.rules_names.proofs.Marks.{marked-none, marked-more}
+use Rattle.rules_keys.specs.Keys.{keyMark, keyCoded}
+use Rattle.rules_keys.proofs.Split.{key-split}
+use Rattle.rules_keys.proofs.keys.first_15.Statement.{statement}
+use Rattle.rules_keys.proofs.keys.first_15.Tie as tie
+
+abbrev Inv-loop : tie.InvT-loop
+Inv-loop types properties keys segments names index codes n marks₀ k₀ marks k =
+    (n ≤ 128) × (length marks ≡ 128) × Marked (λ i. keyMark (modelOf [] [] [] keys [] [] [] segments names) i) k marks
+    × First (λ i. keyCoded (modelOf [] types properties keys [] [] [] segments names) codes i) n k
+
+abbrev μ-loop : tie.MeasureT-loop
+μ-loop types properties keys segments names index codes n marks₀ k₀ marks k = n - k
+
+key-count-requires : tie.Need-key-count-requires Inv-loop μ-loop
+key-count-requires c κs = search needs
+
+loop-holds : tie.Need-loop-holds Inv-loop μ-loop
+loop-holds c = (search needs, refl, marked-none _ _, first-start _ _)
+
+key-mark-requires : tie.Need-key-mark-requires Inv-loop μ-loop
+key-mark-requires c κs = search needs
+
+cast-marks : tie.Need-cast-marks Inv-loop μ-loop
+cast-marks c = search needs
+
+mul-marks : tie.Need-mul-marks Inv-loop μ-loop
+mul-marks c = search needs
+
+array-write-marks : tie.Need-array-write-marks Inv-loop μ-loop
+array-write-marks c = search needs
+
+key-misled-requires : tie.Need-key-misled-requires Inv-loop μ-loop
+key-misled-requires c κs = search needs
+
+slice-aggregate-key-named : tie.Need-slice-aggregate-key-named Inv-loop μ-loop
+slice-aggregate-key-named c = simp length-set (sym (c .before .before .before .before .loop .inv .1))
+
+key-named-requires : tie.Need-key-named-requires Inv-loop μ-loop
+key-named-requires c κs =
+    let l = c .before .before .before .before .loop in
+    marked-more _ (l .k) (l .marks) _ (omega (arith, l .inv .0, l .inv .1)) (c .before .before .key-mark .ensures) (l .inv .2)
+
+key-misaliased-requires : tie.Need-key-misaliased-requires Inv-loop μ-loop
+key-misaliased-requires c κs = search needs
+
+add-result : tie.Need-add-result Inv-loop μ-loop
+add-result c = search needs
+
+returns : tie.Need-returns Inv-loop μ-loop
+returns c = rw (← c .before .before .before .before .before .before .before .before .key-count .ensures .0) (first-hit _ _ _ _ (c .before .before .before .before .before .before .before .loop .inv .3) (c .before .before .before .before .before .before .loop-test .taken) (rw (c .before .before .before .before .key-misled .ensures, c .before .before .key-named .ensures, c .before .key-misaliased .ensures) (key-split _ _ _ _ _ _ _)) (c .if1 .taken))
+
+add-k : tie.Need-add-k Inv-loop μ-loop
+add-k c = search needs
+
+loop-less : tie.Need-loop-less Inv-loop μ-loop
+loop-less c = search needs
+
+loop-again : tie.Need-loop-again Inv-loop μ-loop
+loop-again c =
+    let l = c .before .before .before .before .before .before .before .loop in (
+      l .inv .0,
+      simp length-set (l .inv .1),
+      marked-more _ (l .k) (l .marks) _ (omega (arith, l .inv .0, l .inv .1)) (c .before .before .before .before .before .key-mark .ensures) (l .inv .2),
+      first-next _ _ _ _ (l .inv .3) (c .before .before .before .before .before .before .loop-test .taken) (rw (c .before .before .before .before .key-misled .ensures, c .before .before .key-named .ensures, c .before .key-misaliased .ensures) (key-split _ _ _ _ _ _ _)) (c .if1 .left),
+    )
+
+returns-2 : tie.Need-returns-2 Inv-loop μ-loop
+returns-2 c = rw (← c .before .before .key-count .ensures .0) (first-end _ _ _ (c .before .loop .inv .3) (omega arith))
+
+pub first-15-spec : {M : Type 1} → statement M
+first-15-spec =
+    tie.close
+    (tie.spec
+    Inv-loop
+    μ-loop
+    key-count-requires
+    loop-holds
+    key-mark-requires
+    cast-marks
+    mul-marks
+    array-write-marks
+    key-misled-requires
+    slice-aggregate-key-named
+    key-named-requires
+    key-misaliased-requires
+    add-result
+    returns
+    add-k
+    loop-less
+    loop-again
+    returns-2)

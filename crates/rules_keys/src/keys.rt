@@ -1,0 +1,199 @@
+// Rule 15: keys.
+ghost use mathlib.Core.Path.{_≡_};
+ghost use mathlib.Core.List.{[]};
+ghost use Prim.Native.Nat.{_+_, _≤_, _<_};
+ghost use Rattle.lookup.specs.Index.{Indexed};
+ghost use Rattle.csdl.specs.Search.{firstFrom};
+ghost use Rattle.csdl.specs.Tables.{keyCount};
+ghost use Rattle.csdl.specs.Model.{modelOf};
+ghost use Rattle.csdl.specs.Paths.{keyName, key15b, key15f, key15g, key15h};
+ghost use Rattle.rules_names.specs.Digests.{Marked};
+ghost use Rattle.rules_keys.specs.Keys.{againNamed, keyCodes, keyMark, keyMisled, keyMisaliased, keyCoded};
+ghost use Rattle.model_image.specs.Limits.{FewKeys, FewProperties, FewTypes};
+use lookup::ancestors::ancestors_of;
+use lookup::key_owners::key_in;
+use lookup::kinds::of_kind;
+use lookup::names::find;
+use lookup::texts::key_alias_text;
+use lookup::texts::segment_text;
+use model_image::keys::key_alias;
+use model_image::keys::key_count;
+use model_image::keys::key_owner;
+use model_image::keys::key_path;
+use packed::same_bytes;
+use path_resolution::codes::has_cast;
+use path_resolution::codes::run_of;
+use path_steps::StepTest;
+use path_steps::step_or_end;
+use rules_names::digests::mark_of;
+
+// Whether an ancestor of the owner has keys (15b).
+fn key_above(types: &[u8], keys: &[u8], k: u16) -> bool
+    requires { ⌜ FewTypes (now types) × FewKeys (now keys) ⌝ }
+    ensures { λ r. ⌜ r ≡ key15b (modelOf [] (now (types .entry)) [] (now (keys .entry)) [] [] [] [] []) k ⌝ }
+{
+    key_in(keys, ancestors_of(types, key_owner(keys, k)))
+}
+
+// Whether the path has a cast, or a step that it may not have (15c to 15e), by the codes of all segments.
+fn key_walk(types: &[u8], properties: &[u8], keys: &[u8], codes: &[u32], k: u16) -> bool
+    requires { ⌜ FewTypes (now types) ⌝ }
+    ensures { λ r. ⌜ r ≡ keyCodes (modelOf [] (now (types .entry)) (now (properties .entry)) (now (keys .entry)) [] [] [] [] []) (now (codes .entry)) k ⌝ }
+{
+    let path = key_path(keys, k);
+    let n = path.count;
+    let run = run_of(codes, path.first, n);
+    has_cast(&run, n)
+        | step_or_end(
+            types,
+            properties,
+            StepTest::NoKeyStep,
+            StepTest::NoKeyEnd,
+            &run,
+            n,
+        )
+}
+
+// Whether an alias is there though the path has one segment, or is not though it has more (15f).
+fn key_alias_form(keys: &[u8], k: u16) -> bool
+    ensures { λ r. ⌜ r ≡ key15f (modelOf [] [] [] (now (keys .entry)) [] [] [] [] []) k ⌝ }
+{
+    let alias = key_alias(keys, k);
+    let run = key_path(keys, k);
+    if alias.size == 0 {
+        return 1 < run.count;
+    }
+    run.count <= 1
+}
+
+// The name of a key: its alias, else the name of its one segment.
+fn key_name<'a>(keys: &[u8], segments: &[u8], names: &'a [u8], k: u16) -> &'a [u8]
+    ensures { λ r. ⌜ now r ≡ keyName (modelOf [] [] [] (now (keys .entry)) [] [] [] (now (segments .entry)) (now (names .entry))) k ⌝ }
+{
+    let alias = key_alias(keys, k);
+    if alias.size == 0 {
+        let run = key_path(keys, k);
+        return segment_text(segments, names, run.first);
+    }
+    key_alias_text(keys, names, k)
+}
+
+// The mark of key k.
+fn key_mark(keys: &[u8], segments: &[u8], names: &[u8], k: u16) -> u64
+    ensures { λ r. ⌜ r ≡ keyMark (modelOf [] [] [] (now (keys .entry)) [] [] [] (now (segments .entry)) (now (names .entry))) k ⌝ }
+{
+    mark_of(key_owner(keys, k), key_name(keys, segments, names, k))
+}
+
+// Whether keys j and k have the same owner and name; asked of their marks first.
+fn again_named(keys: &[u8], segments: &[u8], names: &[u8], marks: &[u64], j: u16, k: u16) -> bool
+    requires { ⌜ (j ≤ k) × Marked (λ i. keyMark (modelOf [] [] [] (now keys) [] [] [] (now segments) (now names)) i) (k + 1) (now marks) ⌝ }
+    ensures { λ r. ⌜ r ≡ againNamed (modelOf [] [] [] (now (keys .entry)) [] [] [] (now (segments .entry)) (now (names .entry))) j k ⌝ }
+{
+    if marks[j as usize] != marks[k as usize] {
+        return false;
+    }
+    if key_owner(keys, j) != key_owner(keys, k) {
+        return false;
+    }
+    same_bytes(
+        key_name(keys, segments, names, j),
+        key_name(keys, segments, names, k),
+    )
+}
+
+// Whether an earlier key of the owner has the name (15g).
+fn key_named(keys: &[u8], segments: &[u8], names: &[u8], marks: &[u64], k: u16) -> bool
+    requires { ⌜ Marked (λ i. keyMark (modelOf [] [] [] (now keys) [] [] [] (now segments) (now names)) i) (k + 1) (now marks) ⌝ }
+    ensures { λ r. ⌜ r ≡ key15g (modelOf [] [] [] (now (keys .entry)) [] [] [] (now (segments .entry)) (now (names .entry))) k ⌝ }
+{
+    let mut j: u16 = 0;
+    while j < k {
+        if again_named(keys, segments, names, marks, j, k) {
+            return true;
+        }
+        j += 1;
+    }
+    false
+}
+
+// Whether the alias is the name of a property of the owner or an ancestor (15h).
+fn key_alias_found(
+    types: &[u8],
+    properties: &[u8],
+    keys: &[u8],
+    names: &[u8],
+    index: &[u16],
+    k: u16,
+) -> bool
+    requires { ⌜ FewTypes (now types) × FewProperties (now properties) × Indexed (now properties) (now names) (now index) ⌝ }
+    ensures { λ r. ⌜ r ≡ key15h (modelOf [] (now (types .entry)) (now (properties .entry)) (now (keys .entry)) [] [] [] [] (now (names .entry))) k ⌝ }
+{
+    let alias = key_alias(keys, k);
+    if alias.size == 0 {
+        return false;
+    }
+    find(
+        types,
+        properties,
+        names,
+        index,
+        key_alias_text(keys, names, k),
+        key_owner(keys, k),
+    )
+        != 0
+}
+
+// Whether key k breaks rule 15 by its owner or its path (15a to 15e), by the codes of all segments.
+fn key_misled(types: &[u8], properties: &[u8], keys: &[u8], codes: &[u32], k: u16) -> bool
+    requires { ⌜ FewTypes (now types) × FewKeys (now keys) ⌝ }
+    ensures { λ r. ⌜ r ≡ keyMisled (modelOf [] (now (types .entry)) (now (properties .entry)) (now (keys .entry)) [] [] [] [] []) (now (codes .entry)) k ⌝ }
+{
+    !of_kind(types, 0, key_owner(keys, k))
+        | key_above(types, keys, k)
+        | key_walk(types, properties, keys, codes, k)
+}
+
+// Whether key k breaks rule 15 by its alias (15f, 15h).
+fn key_misaliased(
+    types: &[u8],
+    properties: &[u8],
+    keys: &[u8],
+    names: &[u8],
+    index: &[u16],
+    k: u16,
+) -> bool
+    requires { ⌜ FewTypes (now types) × FewProperties (now properties) × Indexed (now properties) (now names) (now index) ⌝ }
+    ensures { λ r. ⌜ r ≡ keyMisaliased (modelOf [] (now (types .entry)) (now (properties .entry)) (now (keys .entry)) [] [] [] [] (now (names .entry))) k ⌝ }
+{
+    key_alias_form(keys, k) | key_alias_found(types, properties, keys, names, index, k)
+}
+
+// The first key that breaks rule 15, by the codes of all segments: 0 for none, else its number plus 1.
+pub fn first_15(
+    types: &[u8],
+    properties: &[u8],
+    keys: &[u8],
+    segments: &[u8],
+    names: &[u8],
+    index: &[u16],
+    codes: &[u32],
+) -> u16
+    requires { ⌜ FewTypes (now types) × FewProperties (now properties) × FewKeys (now keys) × Indexed (now properties) (now names) (now index) ⌝ }
+    ensures { λ r. ⌜ r ≡ firstFrom (λ k. keyCoded (modelOf [] (now (types .entry)) (now (properties .entry)) (now (keys .entry)) [] [] [] (now (segments .entry)) (now (names .entry))) (now (codes .entry)) k) 0 (keyCount (now (keys .entry))) ⌝ }
+{
+    let n = key_count(keys);
+    let mut marks = [1u64; 128];
+    let mut k: u16 = 0;
+    while k < n {
+        marks[k as usize] = key_mark(keys, segments, names, k);
+        if key_misled(types, properties, keys, codes, k)
+            | key_named(keys, segments, names, &marks, k)
+            | key_misaliased(types, properties, keys, names, index, k)
+        {
+            return k + 1;
+        }
+        k += 1;
+    }
+    0
+}

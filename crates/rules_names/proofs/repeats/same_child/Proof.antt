@@ -1,0 +1,73 @@
+use Prim.Native.Nat.{_+_}
+use native.Mathlib.Omega.{arith}
+use Rattle.csdl.specs.Model.{modelOf}
+use Rattle.rules_names.proofs.Marks.{marks-apart, children-apart}
+use borrow.Author.Needs.{needs}
+use Rattle.rules_names.proofs.repeats.same_child.Statement.{statement}
+use Rattle.rules_names.proofs.repeats.same_child.Tie as tie
+
+mul-if1 : tie.Need-mul-if1
+mul-if1 c = search needs
+
+shared-slice-read-if1 : tie.Need-shared-slice-read-if1
+shared-slice-read-if1 c = search needs
+
+mul-if1-2 : tie.Need-mul-if1-2
+mul-if1-2 c = search needs
+
+shared-slice-read-if1-2 : tie.Need-shared-slice-read-if1-2
+shared-slice-read-if1-2 c = search needs
+
+returns : tie.Need-returns
+returns c =
+    let s = c .before .before .before .before .before .before in
+    let a = s .args in
+    children-apart _ (a .h) (a .j) (marks-apart _ (a .h + 1) (a .marks .now) (s .pre .1) (a .j) (a .h) (omega (arith, s .pre .0)) (omega arith) (c .if1 .taken))
+
+child-name-requires : tie.Need-child-name-requires
+child-name-requires c κs = search needs
+
+text-of-requires : tie.Need-text-of-requires
+text-of-requires c κs = search needs
+
+child-name-requires-2 : tie.Need-child-name-requires-2
+child-name-requires-2 c κs = search needs
+
+text-of-requires-2 : tie.Need-text-of-requires-2
+text-of-requires-2 c κs = search needs
+
+same-bytes-requires : tie.Need-same-bytes-requires
+same-bytes-requires c κs = search needs
+
+returns-2 : tie.Need-returns-2
+unfolding modelOf
+returns-2 c =
+    let b = c .before in
+    let d = b .before in
+    let e = d .before in
+    let f = e .before in
+    rw (
+      ← f .child-name .ensures .0,
+      ← f .child-name .ensures .1,
+      ← e .text-of .ensures,
+      ← d .child-name2 .ensures .0,
+      ← d .child-name2 .ensures .1,
+      ← b .text-of2 .ensures,
+      ← c .same-bytes .ensures,
+    )
+
+pub same-child-spec : {M : Type 1} → statement M
+same-child-spec =
+    tie.close
+    (tie.spec
+    mul-if1
+    shared-slice-read-if1
+    mul-if1-2
+    shared-slice-read-if1-2
+    returns
+    child-name-requires
+    text-of-requires
+    child-name-requires-2
+    text-of-requires-2
+    same-bytes-requires
+    returns-2)

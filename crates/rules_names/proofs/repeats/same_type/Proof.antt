@@ -1,0 +1,90 @@
+use Prim.Native.Nat.{_+_}
+use mathlib.Core.List.{[]}
+use native.Mathlib.Omega.{arith}
+use borrow.Author.Tests.{eq-eqb, ne-eqb}
+use Rattle.csdl.specs.Model.{modelOf}
+use Rattle.csdl.specs.Form.{sameType}
+use Rattle.rules_names.proofs.Marks.{marks-apart, types-apart}
+use borrow.Author.Needs.{needs}
+use Rattle.rules_names.proofs.repeats.same_type.Statement.{statement}
+use Rattle.rules_names.proofs.repeats.same_type.Tie as tie
+
+mul-if1 : tie.Need-mul-if1
+mul-if1 c = search needs
+
+shared-slice-read-if1 : tie.Need-shared-slice-read-if1
+shared-slice-read-if1 c = search needs
+
+mul-if1-2 : tie.Need-mul-if1-2
+mul-if1-2 c = search needs
+
+shared-slice-read-if1-2 : tie.Need-shared-slice-read-if1-2
+shared-slice-read-if1-2 c = search needs
+
+returns : tie.Need-returns
+returns c =
+    let s = c .before .before .before .before .before .before in
+    let a = s .args in
+    types-apart _ (a .t) (a .u) (marks-apart _ (a .t + 1) (a .marks .now) (s .pre .1) (a .u) (a .t) (omega (arith, s .pre .0)) (omega arith) (c .if1 .taken))
+
+type-schema-requires : tie.Need-type-schema-requires
+type-schema-requires c κs = search needs
+
+type-schema-requires-2 : tie.Need-type-schema-requires-2
+type-schema-requires-2 c κs = search needs
+
+returns-2 : tie.Need-returns-2
+unfolding sameType modelOf
+returns-2 c = rw (← c .before .before .type-schema .ensures .0, ← c .before .type-schema2 .ensures .0, ne-eqb _ _ (c .if2 .taken))
+
+type-name-requires : tie.Need-type-name-requires
+type-name-requires c κs = search needs
+
+text-of-requires : tie.Need-text-of-requires
+text-of-requires c κs = search needs
+
+type-name-requires-2 : tie.Need-type-name-requires-2
+type-name-requires-2 c κs = search needs
+
+text-of-requires-2 : tie.Need-text-of-requires-2
+text-of-requires-2 c κs = search needs
+
+same-bytes-requires : tie.Need-same-bytes-requires
+same-bytes-requires c κs = search needs
+
+returns-3 : tie.Need-returns-3
+unfolding sameType modelOf
+returns-3 c =
+    let b = c .before .before .before .before in
+    let d = b .before in
+    rw (
+      ← d .before .before .type-schema .ensures .0,
+      ← d .before .type-schema2 .ensures .0,
+      eq-eqb _ _ (d .if2 .left),
+      ← b .type-name .ensures .0,
+      ← b .type-name .ensures .1,
+      ← c .before .before .before .text-of .ensures,
+      ← c .before .before .type-name2 .ensures .0,
+      ← c .before .before .type-name2 .ensures .1,
+      ← c .before .text-of2 .ensures,
+      ← c .same-bytes .ensures,
+    )
+
+pub same-type-spec : {M : Type 1} → statement M
+same-type-spec =
+    tie.close
+    (tie.spec
+    mul-if1
+    shared-slice-read-if1
+    mul-if1-2
+    shared-slice-read-if1-2
+    returns
+    type-schema-requires
+    type-schema-requires-2
+    returns-2
+    type-name-requires
+    text-of-requires
+    type-name-requires-2
+    text-of-requires-2
+    same-bytes-requires
+    returns-3)

@@ -1,0 +1,3 @@
+pub mod Digests
+pub mod Dots
+pub mod Repeats

@@ -1,0 +1,25 @@
+// Digests of names, made once a record, so that names that differ are seldom compared.
+ghost use mathlib.Core.Path.{_≡_};
+ghost use Prim.Native.Nat.{_<_};
+ghost use Rattle.rules_names.specs.Digests.{digestFrom, markOf};
+
+// The digest of bytes that stand behind those of digest d.
+pub fn digest(d: u64, s: &[u8]) -> u64
+    requires { ⌜ d < 4294967296 ⌝ }
+    ensures { λ r. ⌜ (r ≡ digestFrom d (now (s .entry))) × (r < 4294967296) ⌝ }
+{
+    let mut e = d;
+    let mut i: usize = 0;
+    while i < s.len() {
+        e = (1000003 * e + s[i] as u64) % 4294967296;
+        i += 1;
+    }
+    e
+}
+
+// The mark of a name under a number.
+pub fn mark_of(n: u16, s: &[u8]) -> u64
+    ensures { λ r. ⌜ r ≡ markOf n (now (s .entry)) ⌝ }
+{
+    (n as u64) * 4294967296 + digest(0, s)
+}

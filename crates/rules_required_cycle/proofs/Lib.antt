@@ -1,0 +1,5 @@
+pub mod Gather
+pub mod Rounds
+pub mod Steps
+pub mod Closing
+pub mod Stepping

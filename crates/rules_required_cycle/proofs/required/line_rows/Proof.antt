@@ -1,0 +1,59 @@
+use borrow.Author.Needs.{needs}
+use Prim.Native.Nat.{ℕ, _-_, _≤_, _<_}
+use mathlib.Core.Path.{_≡_, _∙_, ap}
+use mathlib.Core.List.{[]}
+use native.Mathlib.Omega.{arith}
+use borrow.Author.Count.{below-more}
+use lib.ListN.{length, getD, set, length-set}
+use lib.Seq.{getD-set-same, getD-set-other}
+use Rattle.csdl.specs.Model.{modelOf}
+use Rattle.csdl.specs.Find.{ancestorOrSelf}
+use Rattle.lookup.specs.Sets.{member, Holds}
+use Rattle.rules_required_cycle.proofs.required.line_rows.Statement.{statement}
+use Rattle.rules_required_cycle.proofs.required.line_rows.Tie as tie
+
+abbrev Inv-loop : tie.InvT-loop
+Inv-loop types n rows₀ t₀ rows t = (length types ≤ 384) × (t ≤ n) × (n ≤ 64) × (length rows ≡ 64) × ((w : ℕ) → w < t → Holds 64 (getD rows w 0) (λ a. ancestorOrSelf (modelOf [] types [] [] [] [] [] [] []) a w))
+
+abbrev μ-loop : tie.MeasureT-loop
+μ-loop types n rows₀ t₀ rows t = n - t
+
+loop-holds : tie.Need-loop-holds Inv-loop μ-loop
+loop-holds c = (search needs, search needs, search needs, search needs, λ w h. absurd (omega arith))
+
+loop-again : tie.Need-loop-again Inv-loop μ-loop
+loop-again c =
+    let a = c .before .before .before .before .before .args in
+    let m = modelOf [] (a .types .now) [] [] [] [] [] [] [] in
+    let l = c .before .before .loop in
+    let v = c .with-ancestors .result in (
+      search needs,
+      search needs,
+      search needs,
+      simp length-set (search needs),
+      below-more (λ w. Holds 64 (getD (set (l .rows) (l .t) v) w 0) (λ u. ancestorOrSelf m u w)) (l .t)
+          (λ w i u h. ap (λ s. member s u) (getD-set-other (l .rows) (l .t) w v 0 (λ q. let z : w ≡ l .t = q in omega arith)) ∙ l .inv .4 w i u h)
+          (λ u h. ap (λ s. member s u) (getD-set-same (l .rows) (l .t) v 0 (omega arith)) ∙ c .with-ancestors .ensures u h),
+    )
+
+returns : tie.Need-returns Inv-loop μ-loop
+returns c =
+    let l = c .before .loop in
+    (l .inv .3, λ w h. l .inv .4 w (omega arith))
+
+pub line-rows-spec : {M : Type 1} → statement M
+line-rows-spec =
+    tie.close
+    (tie.spec
+    Inv-loop
+    μ-loop
+    (λ c κs. search needs)
+    loop-holds
+    (λ c κs. search needs)
+    (λ c. search needs)
+    (λ c. search needs)
+    (λ c. search needs)
+    (λ c. search needs)
+    (λ c. search needs)
+    loop-again
+    returns)

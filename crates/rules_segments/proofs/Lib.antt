@@ -1,0 +1,7 @@
+pub mod Covering
+pub mod Frame
+pub mod Least
+pub mod Resolved
+pub mod Keeping
+pub mod Resolving
+pub mod InImage

@@ -1,0 +1,4 @@
+pub mod Cover
+pub mod Lowest
+pub mod Kept
+pub mod Indexes

@@ -1,0 +1,11 @@
+use Rattle.csdl.specs.Model.{modelOf}
+use borrow.Author.Needs.{needs}
+use Rattle.rules_types.proofs.types.underlying_misfits.Statement.{statement}
+use Rattle.rules_types.proofs.types.underlying_misfits.Tie as tie
+
+returns : tie.Need-returns
+unfolding modelOf
+returns c = cc
+
+pub underlying-misfits-spec : {M : Type 1} → statement M
+underlying-misfits-spec = tie.close (tie.spec (λ c κs. search needs) (λ c κs. search needs) returns)

@@ -1,6 +1,0 @@
-pub mod Covering
-pub mod Frame
-pub mod Least
-pub mod Trails
-pub mod Keeping
-pub mod Resolving

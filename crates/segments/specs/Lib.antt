@@ -1,4 +1,0 @@
-pub mod Kinds
-pub mod Cover
-pub mod Lowest
-pub mod Kept

@@ -1,0 +1,45 @@
+use mathlib.Core.Path.{sym, ap, _∙_}
+use Rattle.csdl.specs.Verdict.{modelMeans}
+use Rattle.sheet.proofs.Sheets.{said, first-accepted, first-refused}
+use borrow.Author.Needs.{needs}
+use Rattle.sheet.proofs.first_line.Statement.{statement}
+use Rattle.sheet.proofs.first_line.Tie as tie
+
+check-requires : tie.Need-check-requires
+check-requires c κs = search needs
+
+enum-known-answer : tie.Need-enum-known-answer
+enum-known-answer c = search needs
+
+accepted-line-requires : tie.Need-accepted-line-requires
+accepted-line-requires c κs = search needs
+
+enum-known-answer-2 : tie.Need-enum-known-answer-2
+enum-known-answer-2 c = search needs
+
+refused-line-requires : tie.Need-refused-line-requires
+refused-line-requires c κs = search needs
+
+returns : tie.Need-returns
+returns c =
+    let means = c .before .before .before .before .before .check .ensures in
+    let told = c .before .before .before .answer .given .1 in
+    (sym (ap modelMeans told) ∙ means .0, (means .1, said _ (first-accepted _ _ (means .0) _ told) (c .accepted-line .ensures .0)))
+
+returns-2 : tie.Need-returns-2
+returns-2 c =
+    let means = c .before .before .before .before .before .check .ensures in
+    let told = c .before .before .before .answer2 .given .1 in
+    (sym (ap modelMeans told) ∙ means .0, (means .1, said _ (first-refused _ _ (means .0) _ _ told) (c .refused-line .ensures)))
+
+pub first-line-spec : {M : Type 1} → statement M
+first-line-spec =
+    tie.close
+    (tie.spec
+    check-requires
+    enum-known-answer
+    accepted-line-requires
+    enum-known-answer-2
+    refused-line-requires
+    returns
+    returns-2)

@@ -1,0 +1,70 @@
+use native.Mathlib.Omega.{arith}
+use Rattle.csdl.proofs.Bounds.{segments-most}
+use Rattle.model_image.proofs.Parts.{layout}
+use Rattle.model_image.proofs.Laid.{opened}
+use Rattle.sheet.proofs.Putting.{join}
+use Rattle.sheet.proofs.Sheets.{said, keeps-1, segments-are, accepted-text, refused-text}
+use borrow.Author.Needs.{needs}
+use Rattle.sheet.proofs.mark_sheet.Statement.{statement}
+use Rattle.sheet.proofs.mark_sheet.Tie as tie
+
+slice-aggregate-check : tie.Need-slice-aggregate-check
+slice-aggregate-check c = search needs
+
+check-requires : tie.Need-check-requires
+check-requires c κs = search needs
+
+enum-known-answer : tie.Need-enum-known-answer
+enum-known-answer c = search needs
+
+accepted-line-requires : tie.Need-accepted-line-requires
+accepted-line-requires c κs = search needs
+
+layout-of-requires : tie.Need-layout-of-requires
+layout-of-requires c κs = layout _ (keeps-1 _ _ (c .before .before .before .before .before .before .check .ensures .0) _ (c .before .before .before .answer .given .1))
+
+slice-aggregate-segment-lines : tie.Need-slice-aggregate-segment-lines
+slice-aggregate-segment-lines c = search needs
+
+segment-lines-requires : tie.Need-segment-lines-requires
+segment-lines-requires c κs =
+    let image = c .before .before .before .before .before .before .before .before .before .before .before .before .args .image .now in
+    let means = c .before .before .before .before .before .before .before .before .before .check .ensures .0 in
+    let told = c .before .before .before .before .before .before .answer .given .1 in
+    let s = segments-are _ _ means _ told in
+    let most = segments-most image (keeps-1 _ _ means _ told) .1 in
+    let l = opened (c .before .before .layout-of .ensures .0) in
+    let n = c .before .before .before .accepted-line .ensures in
+    (omega (arith, s, l .segments-place, l .places, l .places-most), omega (arith, s, most, n .1, n .0 .same-length))
+
+enum-known-answer-2 : tie.Need-enum-known-answer-2
+enum-known-answer-2 c = search needs
+
+refused-line-requires : tie.Need-refused-line-requires
+refused-line-requires c κs = search needs
+
+returns : tie.Need-returns
+returns c =
+    let means = c .before .before .before .before .before .before .before .before .before .before .check .ensures in
+    let told = c .before .before .before .before .before .before .before .answer .given .1 in
+    let l = opened (c .before .before .before .layout-of .ensures .0) in
+    said _ (accepted-text _ _ (means .0) _ told _ _ (omega arith) (means .1) _ (l .segments-place)) (join (c .before .before .before .before .accepted-line .ensures .0) (c .segment-lines .ensures))
+
+returns-2 : tie.Need-returns-2
+returns-2 c = said _ (refused-text _ _ (c .before .before .before .before .before .before .check .ensures .0) _ _ (c .before .before .before .answer2 .given .1)) (c .refused-line .ensures)
+
+pub mark-sheet-spec : {M : Type 1} → statement M
+mark-sheet-spec =
+    tie.close
+    (tie.spec
+    slice-aggregate-check
+    check-requires
+    enum-known-answer
+    accepted-line-requires
+    layout-of-requires
+    slice-aggregate-segment-lines
+    segment-lines-requires
+    enum-known-answer-2
+    refused-line-requires
+    returns
+    returns-2)

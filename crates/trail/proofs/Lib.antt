@@ -1,7 +1,0 @@
-pub mod Past
-pub mod Laws
-pub mod Last
-pub mod Turn
-pub mod Frame
-pub mod Reading
-pub mod Runs

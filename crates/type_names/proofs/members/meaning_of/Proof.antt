@@ -1,0 +1,135 @@
+use Prim.Native.Nat.{ℕ, _+_, _-_, _≤_, _<_}
+use mathlib.Core.Path.{_≡_, refl, sym, ap, _∙_}
+use mathlib.Core.List.{List}
+use mathlib.Core.Logic.{⊎-elim}
+use native.Mathlib.Omega.{arith}
+use lib.ListN.{length, getD}
+use Rattle.csdl.specs.Tables.{typeBase, typeCount, propertyCount, propertyOwner}
+use Rattle.lookup.specs.Near.{leftAt, only}
+use Rattle.lookup.specs.Nearness.{nearnessOf}
+use Rattle.lookup.proofs.Climbing.{nearness-size, nearness-at}
+use Rattle.type_names.proofs.Meanings.{Meant, meant-start, meant-nearer, meant-farther, meaning}
+use borrow.Author.Needs.{needs}
+use Rattle.type_names.proofs.members.meaning_of.Statement.{statement}
+use Rattle.type_names.proofs.members.meaning_of.Tie as tie
+
+abbrev Inv-loop : tie.InvT-loop
+Inv-loop types properties index t nearness n found₀ near₀ p₀ found near p = (p ≤ n) × (n ≤ 512) × Meant (λ q. propertyOwner properties q) (λ q. getD index (512 + q) 0) (λ u. typeBase types u) (typeCount types) t p found near × (nearness ≡ nearnessOf (λ u. typeBase types u) (typeCount types) t)
+    × (length index ≡ 1793) × ((q : ℕ) → q < propertyCount properties → getD index (512 + q) 0 < 513) × (n ≡ propertyCount properties)
+
+abbrev μ-loop : tie.MeasureT-loop
+μ-loop types properties index t nearness n found₀ near₀ p₀ found near p = n - p
+
+nearness-of-requires : tie.Need-nearness-of-requires Inv-loop μ-loop
+nearness-of-requires c κs = search needs
+
+property-count-requires : tie.Need-property-count-requires Inv-loop μ-loop
+property-count-requires c κs = search needs
+
+loop-holds : tie.Need-loop-holds Inv-loop μ-loop
+loop-holds c = let s = c .before .before .before .before .before in (search needs, search needs, meant-start _ _ _ _ _, c .before .nearness-of .ensures, s .pre .3, s .pre .4, c .property-count .ensures .0)
+
+cast-h : tie.Need-cast-h Inv-loop μ-loop
+cast-h c = search needs
+
+add-h : tie.Need-add-h Inv-loop μ-loop
+add-h c = search needs
+
+mul-h : tie.Need-mul-h Inv-loop μ-loop
+mul-h c = search needs
+
+shared-slice-read-h : tie.Need-shared-slice-read-h Inv-loop μ-loop
+shared-slice-read-h c = search needs
+
+cast-h-2 : tie.Need-cast-h-2 Inv-loop μ-loop
+cast-h-2 c = let l = c .before .before .loop in omega (arith, l .inv .5 (l .p) (omega arith))
+
+property-owner-requires : tie.Need-property-owner-requires Inv-loop μ-loop
+property-owner-requires c κs = search needs
+
+cast-left : tie.Need-cast-left Inv-loop μ-loop
+cast-left c = search needs
+
+mul-left : tie.Need-mul-left Inv-loop μ-loop
+mul-left c = search needs
+
+array-read-left : tie.Need-array-read-left Inv-loop μ-loop
+array-read-left c = let l = c .before .before .before .loop in omega (arith, ap (λ (x : List ℕ). length x) (l .inv .3) ∙ nearness-size _ _ _, c .property-owner .ensures .1)
+
+mul-if1 : tie.Need-mul-if1 Inv-loop μ-loop
+mul-if1 c = let l = c .before .before .before .loop in omega (arith, l .inv .5 (l .p) (omega arith))
+
+array-read-if1 : tie.Need-array-read-if1 Inv-loop μ-loop
+array-read-if1 c = let l = c .before .before .before .loop in omega (arith, l .inv .5 (l .p) (omega arith), l .inv .2 .size)
+
+mul-near : tie.Need-mul-near Inv-loop μ-loop
+mul-near c = let l = c .before .before .before .before .loop in omega (arith, l .inv .5 (l .p) (omega arith))
+
+array-write-near : tie.Need-array-write-near Inv-loop μ-loop
+array-write-near c = let l = c .before .before .before .before .loop in omega (arith, l .inv .5 (l .p) (omega arith), l .inv .2 .size)
+
+add-found : tie.Need-add-found Inv-loop μ-loop
+add-found c = search needs
+
+mul-found : tie.Need-mul-found Inv-loop μ-loop
+mul-found c = let l = c .before .before .before .before .loop in omega (arith, l .inv .5 (l .p) (omega arith))
+
+array-write-found : tie.Need-array-write-found Inv-loop μ-loop
+array-write-found c = let l = c .before .before .before .before .loop in omega (arith, l .inv .5 (l .p) (omega arith), l .inv .2 .places)
+
+add-p : tie.Need-add-p Inv-loop μ-loop
+add-p c = search needs
+
+loop-less : tie.Need-loop-less Inv-loop μ-loop
+loop-less c = search needs
+
+loop-again : tie.Need-loop-again Inv-loop μ-loop
+loop-again c = let l = c .before .before .before .before .loop in
+    let a = c .before .before .before .before .before .before .before .before .before .before .args in
+    let o = c .before .property-owner in
+    let small = l .inv .5 (l .p) (omega arith) in
+    let e = ap (λ (x : List ℕ). getD x (o .result) 0) (l .inv .3) ∙ nearness-at _ _ _ (o .result) (omega (arith, o .ensures .1)) ∙ ap (λ (k : ℕ). leftAt (only k) (λ u. typeBase (a .types .now) u) (typeCount (a .types .now)) (a .t)) (o .ensures .0) in (
+      search needs,
+      search needs,
+      ⊎-elim
+          (λ w. rw (w .1, w .2) (meant-nearer _ _ _ _ _ _ _ _ (l .inv .2) _ refl (omega (arith, small)) _ e (w .0 .taken)))
+          (λ w. rw (w .1, w .2) (meant-farther _ _ _ _ _ _ _ _ (l .inv .2) (getD (a .index .now) (512 + l .p) 0) refl (omega (arith, small)) _ e (w .0 .left)))
+          (c .if1 .came),
+      l .inv .3,
+      l .inv .4,
+      l .inv .5,
+      l .inv .6,
+    )
+
+returns : tie.Need-returns Inv-loop μ-loop
+returns c = let l = c .before .loop in let m = l .inv .2 in let e : l .p ≡ propertyCount (c .before .before .before .before .before .before .before .args .properties .now) = omega arith in meaning _ _ _ _ _ _ (rw e at m)
+
+pub meaning-of-spec : {M : Type 1} → statement M
+meaning-of-spec =
+    tie.close
+    (tie.spec
+    Inv-loop
+    μ-loop
+    nearness-of-requires
+    property-count-requires
+    loop-holds
+    cast-h
+    add-h
+    mul-h
+    shared-slice-read-h
+    cast-h-2
+    property-owner-requires
+    cast-left
+    mul-left
+    array-read-left
+    mul-if1
+    array-read-if1
+    mul-near
+    array-write-near
+    add-found
+    mul-found
+    array-write-found
+    add-p
+    loop-less
+    loop-again
+    returns)

@@ -1,2 +1,0 @@
-pub mod Bools
-pub mod Frame

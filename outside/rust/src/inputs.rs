@@ -1,0 +1,396 @@
+//! The inputs of the benchmark: usual ones and hostile ones, made from fixed
+//! descriptions, each time the same; and what each may cost.
+
+use crate::generate::cases::Case;
+use crate::generate::describe::*;
+use crate::generate::fixed::{chain, full_instance, middle, tours, worked_example};
+use crate::generate::instances::{InstanceDesc, NodeDesc, SlotDesc};
+use crate::generate::random::Random;
+use crate::generate::raw::Raw;
+
+/// An input with the library's instructions a call over those of the unrelated
+/// checker: what is aimed at, and above what the test fails.
+pub struct Row {
+    pub name: &'static str,
+    pub goal: f64,
+    pub limit: f64,
+    pub make: fn() -> Case,
+}
+
+const fn row(name: &'static str, goal: f64, limit: f64, make: fn() -> Case) -> Row {
+    Row {
+        name,
+        goal,
+        limit,
+        make,
+    }
+}
+
+/// The limits of the test, all in this table: twice the goals.
+pub const ROWS: [Row; 21] = [
+    row("worked example", 1.0, 2.0, worked),
+    row("middle model", 1.0, 2.0, middle_model),
+    row(LARGEST, 1.0, 2.0, largest),
+    row("instance of 256 nodes", 1.0, 2.0, tours_checked),
+    row("one walk in it", 1.0, 2.0, tours_walked),
+    row("names redeclared: instance", 3.0, 6.0, names_instance),
+    row("names redeclared: walk", 3.0, 6.0, names_walk),
+    row("names redeclared: 128 bindings", 3.0, 6.0, names_bindings),
+    row("names redeclared: no segment", 3.0, 6.0, names_alone),
+    row("types and children, names alike", 3.0, 6.0, names_alike),
+    row("128 keys, aliases alike", 3.0, 6.0, aliases_alike),
+    row("512 partners", 3.0, 6.0, partners),
+    row("instance of 2,048 items", 3.0, 6.0, full),
+    row(
+        "refused 21: each slot has all items",
+        3.0,
+        6.0,
+        runs_over_all,
+    ),
+    row("refused 26: 256 nodes, one twice", 3.0, 6.0, held_twice),
+    row("1,800 items at depth 62", 3.0, 6.0, deep_items),
+    row("walk through 13 casts", 3.0, 6.0, casts),
+    row("refused 9: circle of 64 bases", 3.0, 6.0, circle),
+    row("refused 14: last segment lost", 3.0, 6.0, lost),
+    row("refused 19: last binding", 3.0, 6.0, last_binding),
+    row(TENTH, 3.0, 6.0, tenth),
+];
+
+/// The library's instructions for the largest model over those for a tenth.
+pub const GROWTH_GOAL: f64 = 14.0;
+pub const GROWTH_LIMIT: f64 = 28.0;
+
+pub const LARGEST: &str = "largest model";
+pub const TENTH: &str = "a tenth of the largest model";
+
+/// A model check with room for its segments.
+fn model_case(raw: &Raw) -> Case {
+    Case::Model {
+        image: raw.to_bytes(),
+        buffer: vec![0; 2 * raw.tables[7].len()],
+    }
+}
+
+fn model_bytes(m: &ModelDesc) -> Vec<u8> {
+    m.encode(&Layout::plain()).to_bytes()
+}
+
+fn instance_bytes(instance: &InstanceDesc) -> Vec<u8> {
+    instance.encode(&mut Random::new(1)).to_bytes()
+}
+
+fn instance_case(m: &ModelDesc, instance: &InstanceDesc) -> Case {
+    Case::Instance {
+        model: model_bytes(m),
+        instance: instance_bytes(instance),
+    }
+}
+
+/// A walk of path 0 at a place from node 0, with room for its results.
+fn walk_case(m: &ModelDesc, instance: &InstanceDesc, place: u32) -> Case {
+    let room = 4 * (1 + instance.slot_count() + instance.item_count());
+    Case::Walk {
+        model: model_bytes(m),
+        instance: instance_bytes(instance),
+        place,
+        path: 0,
+        node: 0,
+        buffer: vec![0; room],
+    }
+}
+
+fn worked() -> Case {
+    model_case(&worked_example().encode(&Layout::plain()))
+}
+
+fn middle_model() -> Case {
+    model_case(&middle().encode(&Layout::plain()))
+}
+
+fn largest() -> Case {
+    model_case(&chain(64))
+}
+
+fn tenth() -> Case {
+    model_case(&chain(6))
+}
+
+/// 16 tours of 15 stops each.
+fn tours_checked() -> Case {
+    instance_case(&worked_example(), &tours(16, 15))
+}
+
+/// The worked example's binding, from a tour.
+fn tours_walked() -> Case {
+    let m = worked_example();
+    let place = m.place(6, 0);
+    walk_case(&m, &tours(16, 15), place)
+}
+
+/// A schema and types T0, T1, .. of the kind, each derived from the one before.
+fn line_of_types(kind: u32, count: usize) -> ModelDesc {
+    let mut m = ModelDesc::default();
+    m.schema("g");
+    for t in 0..count {
+        m.add_type(kind, &format!("T{t}"));
+        m.types[t].base = t.checked_sub(1);
+    }
+    m
+}
+
+/// Name number j of eight, of 128 bytes each: alike in their first bytes and
+/// in their last three, so that a bucket or a prefix tells none from another.
+fn long_name(j: usize) -> Bytes {
+    let mut name = vec![b'n'; 128];
+    name[124] = b'a' + j as u8;
+    name
+}
+
+/// 64 types in a line, each of which declares the eight long names anew, to
+/// single, nullable navigations to itself. The first four contain.
+fn names_model(bindings: usize) -> ModelDesc {
+    let mut m = line_of_types(ENTITY, 64);
+    for t in 0..64 {
+        for j in 0..8 {
+            let p = m.navigation(t, "", t);
+            m.properties[p].name = long_name(j);
+            m.properties[p].nullable = true;
+            m.properties[p].contains = j < 4;
+        }
+    }
+    m.set("S", 63);
+    m.children[0].singleton = true;
+    for b in 0..bindings {
+        let numbers = [0, 0, 0, 0, b >> 6, b >> 4 & 3, b >> 2 & 3, 4 + (b & 3)];
+        let path = numbers.map(|j| Seg::Name(long_name(j))).to_vec();
+        m.bindings.push(BindingDesc {
+            child: 0,
+            path,
+            target: 0,
+            target_path: Vec::new(),
+        });
+    }
+    m
+}
+
+/// 128 nodes of the last type, with eight null slots each.
+fn null_nodes() -> InstanceDesc {
+    let slots: Vec<SlotDesc> = (63 * 8..64 * 8).map(|p| slot(p, 0, &[])).collect();
+    let node = NodeDesc {
+        type_number: 63,
+        slots,
+    };
+    InstanceDesc {
+        nodes: vec![node; 128],
+    }
+}
+
+fn slot(property: usize, state: u32, items: &[(u32, u32)]) -> SlotDesc {
+    SlotDesc {
+        property,
+        state,
+        items: items.to_vec(),
+    }
+}
+
+fn names_instance() -> Case {
+    instance_case(&names_model(0), &null_nodes())
+}
+
+fn names_walk() -> Case {
+    let m = names_model(128);
+    let place = m.place(6, 127);
+    walk_case(&m, &null_nodes(), place)
+}
+
+fn names_bindings() -> Case {
+    model_case(&names_model(128).encode(&Layout::plain()))
+}
+
+fn names_alone() -> Case {
+    model_case(&names_model(0).encode(&Layout::plain()))
+}
+
+/// Name number i of 128, of 128 bytes each: one byte of it is another, and the
+/// earlier that of two names stands, the sooner they differ.
+fn name_alike(i: usize) -> Bytes {
+    let mut text = vec![b'a'; 255];
+    text[127] = b'b';
+    text[i..i + 128].to_vec()
+}
+
+/// 64 types and 64 children, with the names that are alike longest.
+fn names_alike() -> Case {
+    let mut m = line_of_types(ENTITY, 64);
+    for i in 0..64 {
+        m.types[i].name = name_alike(i);
+        m.set("", i);
+        m.children[i].name = name_alike(i);
+        m.children[i].singleton = true;
+    }
+    model_case(&m.encode(&Layout::plain()))
+}
+
+/// 128 keys of one type, of two segments each.
+fn aliases_alike() -> Case {
+    let mut m = line_of_types(ENTITY, 1);
+    let complex = m.add_type(COMPLEX, "K");
+    m.structural(0, "C", complex as u32);
+    m.structural(complex, "V", INT32);
+    for i in 0..128 {
+        m.key(0, &["C", "V"]);
+        m.keys[i].alias = name_alike(i);
+    }
+    model_case(&m.encode(&Layout::plain()))
+}
+
+/// 256 nodes, 1,024 slots and 2,048 items.
+fn full() -> Case {
+    let (m, instance) = full_instance();
+    instance_case(&m, &instance)
+}
+
+/// The same, with all items in the run of each slot.
+fn runs_over_all() -> Case {
+    let (m, instance) = full_instance();
+    let mut raw = instance.encode(&mut Random::new(1));
+    for slot in &mut raw.tables[1] {
+        slot[1..4].copy_from_slice(&[2, 0, 2048]);
+    }
+    Case::Instance {
+        model: model_bytes(&m),
+        instance: raw.to_bytes(),
+    }
+}
+
+/// 32 types in a line and 32 more under the last of them, with 16 properties
+/// each, which are each other's partners two by two; one of them contains.
+fn partners() -> Case {
+    let mut m = line_of_types(ENTITY, 32);
+    for leaf in 32..64 {
+        m.add_type(ENTITY, &format!("T{leaf}"));
+        m.types[leaf].base = Some(31);
+        for j in 0..16 {
+            let name = |j: usize| format!("P{leaf}x{j}");
+            let p = m.navigation(leaf, &name(j), leaf);
+            m.properties[p].nullable = true;
+            m.properties[p].contains = j == 0;
+            m.properties[p].partner = names(&[&name(j ^ 1)]);
+        }
+    }
+    model_case(&m.encode(&Layout::plain()))
+}
+
+/// A line of 256 nodes, each within the one before, and the last within the
+/// first too; with 1,024 items in all.
+fn held_twice() -> Case {
+    let mut m = line_of_types(COMPLEX, 1);
+    let parts = m.structural(0, "Parts", 0);
+    m.properties[parts].collection = true;
+    let tags = m.structural(0, "Tags", INT32);
+    m.properties[tags].collection = true;
+    let node = |n: u32| {
+        let held: &[(u32, u32)] = match n {
+            0 => &[(0, 1), (0, 255)],
+            255 => &[],
+            _ => &[(0, n + 1)],
+        };
+        NodeDesc {
+            type_number: 0,
+            slots: vec![slot(parts, 2, held), slot(tags, 2, &[(INT32, n); 3])],
+        }
+    };
+    let nodes = (0..256).map(node).collect();
+    instance_case(&m, &InstanceDesc { nodes })
+}
+
+/// A property of the first type of a line of 63, and eight nodes of the last
+/// with 225 items each.
+fn deep_items() -> Case {
+    let mut m = line_of_types(ENTITY, 63);
+    let refs = m.navigation(0, "Refs", 0);
+    m.properties[refs].collection = true;
+    let node = |n: u32| NodeDesc {
+        type_number: 62,
+        slots: vec![slot(refs, 2, &[(62, 7 - n); 225])],
+    };
+    let nodes = (0..8).map(node).collect();
+    instance_case(&m, &InstanceDesc { nodes })
+}
+
+/// 255 nodes of the last type of a line of 64, taken through 13 casts to the
+/// first.
+fn casts() -> Case {
+    let mut m = line_of_types(ENTITY, 64);
+    let no = m.structural(0, "No", INT32);
+    let parts = m.navigation(0, "Parts", 0);
+    m.properties[parts].collection = true;
+    m.properties[parts].contains = true;
+    let next = m.navigation(0, "Next", 0);
+    m.properties[next].nullable = true;
+    m.key(0, &["No"]);
+    let set = m.set("Set", 0);
+    m.bind(set, &["Parts"], set);
+    m.bindings[0].path.extend(vec![Seg::Cast(0); 13]);
+    m.bindings[0].path.extend(names(&["Next"]));
+    let node = |n: u32| {
+        let held: Vec<(u32, u32)> = if n == 0 {
+            (1..256).map(|h| (63, h)).collect()
+        } else {
+            Vec::new()
+        };
+        NodeDesc {
+            type_number: 63,
+            slots: vec![
+                slot(no, 1, &[(INT32, n)]),
+                slot(parts, 2, &held),
+                slot(next, 1, &[(63, 255 - n)]),
+            ],
+        }
+    };
+    let nodes = (0..256).map(node).collect();
+    let place = m.place(6, 0);
+    walk_case(&m, &InstanceDesc { nodes }, place)
+}
+
+/// The first type derives from the last.
+fn circle() -> Case {
+    let mut raw = chain(64);
+    raw.tables[1][0][5] = 64;
+    model_case(&raw)
+}
+
+/// The last segment has the name of the first schema, which no property has.
+fn lost() -> Case {
+    let mut raw = chain(64);
+    raw.tables[7][1023] = vec![0, 0, raw.tables[0][0][0], raw.tables[0][0][1]];
+    model_case(&raw)
+}
+
+/// The last binding ends at a containment.
+fn last_binding() -> Case {
+    let mut raw = chain(64);
+    let containment = &raw.tables[2][0];
+    raw.tables[7][1023] = vec![0, 0, containment[6], containment[7]];
+    model_case(&raw)
+}
+
+#[cfg(test)]
+mod tests {
+    use super::*;
+
+    /// Each input is what its name says, and made the same each time.
+    #[test]
+    fn inputs_are_as_named() {
+        for row in &ROWS {
+            let (_, outcome) = (row.make)().reference();
+            let rule = row
+                .name
+                .strip_prefix("refused ")
+                .and_then(|rest| rest.split(':').next())
+                .map_or(0, |rule| rule.parse().unwrap());
+            assert_eq!(outcome.packed >> 32, rule, "{}", row.name);
+            assert_eq!((row.make)().reference().1, outcome, "{}", row.name);
+        }
+    }
+}
