@@ -1,6 +1,6 @@
 // The check of an instance: rules 1 and 3 to 19 of its model, then 20 to 26.
-pub mod images;
-pub mod rules;
+mod images;
+mod rules;
 
 ghost use mathlib.Core.Path.{_≡_};
 ghost use Rattle.csdl.specs.Conforms.{instanceAnswer};

@@ -1,6 +1,6 @@
 // Rule 26: what each item holds, who holds a node, and what lies within it.
-pub mod arrays;
-pub mod rows;
+mod arrays;
+mod rows;
 
 ghost use mathlib.Core.Path.{_≡_};
 ghost use mathlib.Core.List.{[]};

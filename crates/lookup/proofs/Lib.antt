@@ -10,3 +10,4 @@ pub mod SetLaws
 pub mod Tables
 pub mod AncestorSets
 pub mod Owners
+pub mod Reaching

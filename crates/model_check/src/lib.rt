@@ -1,5 +1,5 @@
 // The check of a model image, rules 1 to 19: the first that is broken and its lowest place, or acceptance and what the segments resolve to.
-pub mod resolution;
+mod resolution;
 
 ghost use mathlib.Core.Path.{_≡_};
 ghost use mathlib.Core.List.{[], _∷_};

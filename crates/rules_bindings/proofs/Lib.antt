@@ -1,4 +1,4 @@
-pub mod PathMarks
+pub mod PathFingerprints
 pub mod Comparing
 pub mod LastName
 pub mod PartnerPaths

@@ -1,4 +1,4 @@
--- Digests of paths, and the marks of bindings: bindings whose marks differ are not alike.
+-- Digests of paths, and the fingerprints of bindings: bindings whose fingerprints differ are not alike.
 use Prim.Native.Nat.{ℕ, _+_, _*_, _%_}
 use mathlib.Core.List.{List, [], _∷_}
 use Rattle.csdl.specs.Model.{Model}
@@ -16,5 +16,5 @@ pathDigest d [] = d
 pathDigest d (g ∷ gs) = pathDigest (segmentDigest d g) gs
 
 -- Binding b by its child and path.
-unfoldable pub bindingMark : Model → ℕ → ℕ
-bindingMark m b = m .bindingChild b * 4294967296 + pathDigest 0 (segmentsOf m (m .bindingPath b))
+unfoldable pub bindingFingerprint : Model → ℕ → ℕ
+bindingFingerprint m b = m .bindingChild b * 4294967296 + pathDigest 0 (segmentsOf m (m .bindingPath b))

@@ -6,8 +6,8 @@ ghost use Rattle.csdl.specs.Search.{firstFrom};
 ghost use Rattle.csdl.specs.Tables.{bindingCount};
 ghost use Rattle.csdl.specs.Model.{modelOf};
 ghost use Rattle.csdl.specs.Paths.{binding19d, binding19e};
-ghost use Rattle.rules_names.specs.Digests.{Marked};
-ghost use Rattle.rules_bindings.specs.Digests.{bindingMark};
+ghost use Rattle.rules_names.specs.Digests.{Fingerprinted};
+ghost use Rattle.rules_bindings.specs.Digests.{bindingFingerprint};
 ghost use Rattle.rules_bindings.specs.Bindings.{againBound, bindingMisled, bindingCoded};
 ghost use Rattle.model_image.specs.Limits.{FewBindings, FewTypes};
 use crate::forms::binding_codes;
@@ -25,9 +25,9 @@ use model_image::children::child_type;
 use path_resolution::codes::end_of;
 use path_resolution::codes::run_of;
 
-// The mark of binding b.
-fn binding_mark(bindings: &[u8], segments: &[u8], names: &[u8], b: u16) -> u64
-    ensures { λ r. ⌜ r ≡ bindingMark (modelOf [] [] [] [] [] [] (now (bindings .entry)) (now (segments .entry)) (now (names .entry))) b ⌝ }
+// The fingerprint of binding b.
+fn binding_fingerprint(bindings: &[u8], segments: &[u8], names: &[u8], b: u16) -> u64
+    ensures { λ r. ⌜ r ≡ bindingFingerprint (modelOf [] [] [] [] [] [] (now (bindings .entry)) (now (segments .entry)) (now (names .entry))) b ⌝ }
 {
     let run = binding_path(bindings, b);
     let g = run.first;
@@ -35,19 +35,19 @@ fn binding_mark(bindings: &[u8], segments: &[u8], names: &[u8], b: u16) -> u64
     (binding_child(bindings, b) as u64) * 4294967296 + path_digest(segments, names, g, n)
 }
 
-// Whether bindings j and b have the same child and the same path; asked of their marks first.
+// Whether bindings j and b have the same child and the same path; asked of their fingerprints first.
 fn again_bound(
     bindings: &[u8],
     segments: &[u8],
     names: &[u8],
-    marks: &[u64],
+    fingerprints: &[u64],
     j: u16,
     b: u16,
 ) -> bool
-    requires { ⌜ (j ≤ b) × Marked (λ i. bindingMark (modelOf [] [] [] [] [] [] (now bindings) (now segments) (now names)) i) (b + 1) (now marks) ⌝ }
+    requires { ⌜ (j ≤ b) × Fingerprinted (λ i. bindingFingerprint (modelOf [] [] [] [] [] [] (now bindings) (now segments) (now names)) i) (b + 1) (now fingerprints) ⌝ }
     ensures { λ r. ⌜ r ≡ againBound (modelOf [] [] [] [] [] [] (now (bindings .entry)) (now (segments .entry)) (now (names .entry))) j b ⌝ }
 {
-    if marks[j as usize] != marks[b as usize] {
+    if fingerprints[j as usize] != fingerprints[b as usize] {
         return false;
     }
     if binding_child(bindings, j) != binding_child(bindings, b) {
@@ -65,13 +65,19 @@ fn again_bound(
 }
 
 // Whether an earlier binding of the child has the same path (19d).
-fn binding_again(bindings: &[u8], segments: &[u8], names: &[u8], marks: &[u64], b: u16) -> bool
-    requires { ⌜ Marked (λ i. bindingMark (modelOf [] [] [] [] [] [] (now bindings) (now segments) (now names)) i) (b + 1) (now marks) ⌝ }
+fn binding_again(
+    bindings: &[u8],
+    segments: &[u8],
+    names: &[u8],
+    fingerprints: &[u64],
+    b: u16,
+) -> bool
+    requires { ⌜ Fingerprinted (λ i. bindingFingerprint (modelOf [] [] [] [] [] [] (now bindings) (now segments) (now names)) i) (b + 1) (now fingerprints) ⌝ }
     ensures { λ r. ⌜ r ≡ binding19d (modelOf [] [] [] [] [] [] (now (bindings .entry)) (now (segments .entry)) (now (names .entry))) b ⌝ }
 {
     let mut j: u16 = 0;
     while j < b {
-        if again_bound(bindings, segments, names, marks, j, b) {
+        if again_bound(bindings, segments, names, fingerprints, j, b) {
             return true;
         }
         j += 1;
@@ -126,12 +132,12 @@ pub fn first_19(
     ensures { λ r. ⌜ r ≡ firstFrom (λ b. bindingCoded (modelOf [] (now (types .entry)) (now (properties .entry)) [] [] (now (children .entry)) (now (bindings .entry)) (now (segments .entry)) (now (names .entry))) (now (codes .entry)) b) 0 (bindingCount (now (bindings .entry))) ⌝ }
 {
     let n = binding_count(bindings);
-    let mut marks = [1u64; 128];
+    let mut fingerprints = [1u64; 128];
     let mut b: u16 = 0;
     while b < n {
-        marks[b as usize] = binding_mark(bindings, segments, names, b);
+        fingerprints[b as usize] = binding_fingerprint(bindings, segments, names, b);
         if binding_misled(types, properties, children, bindings, codes, b)
-            | binding_again(bindings, segments, names, &marks, b)
+            | binding_again(bindings, segments, names, &fingerprints, b)
         {
             return b + 1;
         }

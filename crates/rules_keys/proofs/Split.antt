@@ -6,9 +6,9 @@ use mathlib.Core.Bool.{Bool, true, false, _||_}
 use Rattle.csdl.specs.Model.{Model, modelOf}
 use Rattle.csdl.specs.Find.{complexStep, ofKind, ancestor, find, own, declares}
 use Rattle.csdl.specs.Paths.{keyStep, keyEnd, keyType, keyName, key15a, key15b, key15f, key15g, key15h}
-use Rattle.rules_names.proofs.Marks.{other-marks}
+use Rattle.rules_names.proofs.Fingerprints.{other-fingerprints}
 use Rattle.path_steps.specs.Steps.{stepTest}
-use Rattle.rules_keys.specs.Keys.{againNamed, keyCodes, keyMark, keyMisled, keyMisaliased, keyCoded}
+use Rattle.rules_keys.specs.Keys.{againNamed, keyCodes, keyFingerprint, keyMisled, keyMisaliased, keyCoded}
 
 parts : (a f g h : Bool) → (a || g || (f || h)) ≡ (a || f || g || h)
 parts true f g h = refl
@@ -27,7 +27,7 @@ module _ (ty pr ke sg nm codes : List ℕ) (k : ℕ) where
   unfolding modelOf keyMisled keyCodes stepTest keyStep keyEnd keyType complexStep ofKind key15b ancestor key15g keyName keyMisaliased find own declares
   key-split = all (modelOf [] ty pr ke [] [] [] sg nm) codes k
 
--- keys whose marks differ are not named alike
-pub keys-apart : (m : Model) (j k : ℕ) → (keyMark m j ≡ keyMark m k → ⊥) → false ≡ againNamed m j k
-unfolding keyMark againNamed
-keys-apart m j k n = other-marks (m .keyOwner j) (m .keyOwner k) (keyName m j) (keyName m k) n
+-- keys whose fingerprints differ are not named alike
+pub keys-apart : (m : Model) (j k : ℕ) → (keyFingerprint m j ≡ keyFingerprint m k → ⊥) → false ≡ againNamed m j k
+unfolding keyFingerprint againNamed
+keys-apart m j k n = other-fingerprints (m .keyOwner j) (m .keyOwner k) (keyName m j) (keyName m k) n

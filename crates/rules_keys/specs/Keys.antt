@@ -8,7 +8,7 @@ use Rattle.packed.specs.Bytes.{same}
 use Rattle.csdl.specs.Search.{anyFrom}
 use Rattle.csdl.specs.Model.{Model}
 use Rattle.csdl.specs.Paths.{keyName, key15a, key15b, key15f, key15g, key15h}
-use Rattle.rules_names.specs.Digests.{markOf}
+use Rattle.rules_names.specs.Digests.{fingerprintOf}
 use Rattle.path_resolution.specs.Resolution.{castCode}
 use Rattle.path_resolution.specs.Coded.{runOf}
 use Rattle.path_steps.specs.declared.StepTest.the-variants.{NoKeyStep, NoKeyEnd}
@@ -26,8 +26,8 @@ keyCodes m codes k =
     anyFrom (λ j. castCode (getD run j 0)) 0 n || stepOrEnd m NoKeyStep NoKeyEnd run n
 
 -- Key k by its owner and name.
-unfoldable pub keyMark : Model → ℕ → ℕ
-keyMark m k = markOf (m .keyOwner k) (keyName m k)
+unfoldable pub keyFingerprint : Model → ℕ → ℕ
+keyFingerprint m k = fingerprintOf (m .keyOwner k) (keyName m k)
 
 -- 15a to 15e of key k, and 15f and 15h.
 unfoldable pub keyMisled : Model → List ℕ → ℕ → Bool

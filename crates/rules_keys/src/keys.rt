@@ -7,8 +7,8 @@ ghost use Rattle.csdl.specs.Search.{firstFrom};
 ghost use Rattle.csdl.specs.Tables.{keyCount};
 ghost use Rattle.csdl.specs.Model.{modelOf};
 ghost use Rattle.csdl.specs.Paths.{keyName, key15b, key15f, key15g, key15h};
-ghost use Rattle.rules_names.specs.Digests.{Marked};
-ghost use Rattle.rules_keys.specs.Keys.{againNamed, keyCodes, keyMark, keyMisled, keyMisaliased, keyCoded};
+ghost use Rattle.rules_names.specs.Digests.{Fingerprinted};
+ghost use Rattle.rules_keys.specs.Keys.{againNamed, keyCodes, keyFingerprint, keyMisled, keyMisaliased, keyCoded};
 ghost use Rattle.model_image.specs.Limits.{FewKeys, FewProperties, FewTypes};
 use lookup::ancestors::ancestors_of;
 use lookup::key_owners::key_in;
@@ -25,7 +25,7 @@ use path_resolution::codes::has_cast;
 use path_resolution::codes::run_of;
 use path_steps::StepTest;
 use path_steps::step_or_end;
-use rules_names::digests::mark_of;
+use rules_names::digests::fingerprint_of;
 
 // Whether an ancestor of the owner has keys (15b).
 fn key_above(types: &[u8], keys: &[u8], k: u16) -> bool
@@ -78,19 +78,26 @@ fn key_name<'a>(keys: &[u8], segments: &[u8], names: &'a [u8], k: u16) -> &'a [u
     key_alias_text(keys, names, k)
 }
 
-// The mark of key k.
-fn key_mark(keys: &[u8], segments: &[u8], names: &[u8], k: u16) -> u64
-    ensures { λ r. ⌜ r ≡ keyMark (modelOf [] [] [] (now (keys .entry)) [] [] [] (now (segments .entry)) (now (names .entry))) k ⌝ }
+// The fingerprint of key k.
+fn key_fingerprint(keys: &[u8], segments: &[u8], names: &[u8], k: u16) -> u64
+    ensures { λ r. ⌜ r ≡ keyFingerprint (modelOf [] [] [] (now (keys .entry)) [] [] [] (now (segments .entry)) (now (names .entry))) k ⌝ }
 {
-    mark_of(key_owner(keys, k), key_name(keys, segments, names, k))
+    fingerprint_of(key_owner(keys, k), key_name(keys, segments, names, k))
 }
 
-// Whether keys j and k have the same owner and name; asked of their marks first.
-fn again_named(keys: &[u8], segments: &[u8], names: &[u8], marks: &[u64], j: u16, k: u16) -> bool
-    requires { ⌜ (j ≤ k) × Marked (λ i. keyMark (modelOf [] [] [] (now keys) [] [] [] (now segments) (now names)) i) (k + 1) (now marks) ⌝ }
+// Whether keys j and k have the same owner and name; asked of their fingerprints first.
+fn again_named(
+    keys: &[u8],
+    segments: &[u8],
+    names: &[u8],
+    fingerprints: &[u64],
+    j: u16,
+    k: u16,
+) -> bool
+    requires { ⌜ (j ≤ k) × Fingerprinted (λ i. keyFingerprint (modelOf [] [] [] (now keys) [] [] [] (now segments) (now names)) i) (k + 1) (now fingerprints) ⌝ }
     ensures { λ r. ⌜ r ≡ againNamed (modelOf [] [] [] (now (keys .entry)) [] [] [] (now (segments .entry)) (now (names .entry))) j k ⌝ }
 {
-    if marks[j as usize] != marks[k as usize] {
+    if fingerprints[j as usize] != fingerprints[k as usize] {
         return false;
     }
     if key_owner(keys, j) != key_owner(keys, k) {
@@ -103,13 +110,13 @@ fn again_named(keys: &[u8], segments: &[u8], names: &[u8], marks: &[u64], j: u16
 }
 
 // Whether an earlier key of the owner has the name (15g).
-fn key_named(keys: &[u8], segments: &[u8], names: &[u8], marks: &[u64], k: u16) -> bool
-    requires { ⌜ Marked (λ i. keyMark (modelOf [] [] [] (now keys) [] [] [] (now segments) (now names)) i) (k + 1) (now marks) ⌝ }
+fn key_named(keys: &[u8], segments: &[u8], names: &[u8], fingerprints: &[u64], k: u16) -> bool
+    requires { ⌜ Fingerprinted (λ i. keyFingerprint (modelOf [] [] [] (now keys) [] [] [] (now segments) (now names)) i) (k + 1) (now fingerprints) ⌝ }
     ensures { λ r. ⌜ r ≡ key15g (modelOf [] [] [] (now (keys .entry)) [] [] [] (now (segments .entry)) (now (names .entry))) k ⌝ }
 {
     let mut j: u16 = 0;
     while j < k {
-        if again_named(keys, segments, names, marks, j, k) {
+        if again_named(keys, segments, names, fingerprints, j, k) {
             return true;
         }
         j += 1;
@@ -183,12 +190,12 @@ pub fn first_15(
     ensures { λ r. ⌜ r ≡ firstFrom (λ k. keyCoded (modelOf [] (now (types .entry)) (now (properties .entry)) (now (keys .entry)) [] [] [] (now (segments .entry)) (now (names .entry))) (now (codes .entry)) k) 0 (keyCount (now (keys .entry))) ⌝ }
 {
     let n = key_count(keys);
-    let mut marks = [1u64; 128];
+    let mut fingerprints = [1u64; 128];
     let mut k: u16 = 0;
     while k < n {
-        marks[k as usize] = key_mark(keys, segments, names, k);
+        fingerprints[k as usize] = key_fingerprint(keys, segments, names, k);
         if key_misled(types, properties, keys, codes, k)
-            | key_named(keys, segments, names, &marks, k)
+            | key_named(keys, segments, names, &fingerprints, k)
             | key_misaliased(types, properties, keys, names, index, k)
         {
             return k + 1;

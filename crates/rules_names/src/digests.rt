@@ -1,7 +1,7 @@
 // Digests of names, made once a record, so that names that differ are seldom compared.
 ghost use mathlib.Core.Path.{_≡_};
 ghost use Prim.Native.Nat.{_<_};
-ghost use Rattle.rules_names.specs.Digests.{digestFrom, markOf};
+ghost use Rattle.rules_names.specs.Digests.{digestFrom, fingerprintOf};
 
 // The digest of bytes that stand behind those of digest d.
 pub fn digest(d: u64, s: &[u8]) -> u64
@@ -17,9 +17,9 @@ pub fn digest(d: u64, s: &[u8]) -> u64
     e
 }
 
-// The mark of a name under a number.
-pub fn mark_of(n: u16, s: &[u8]) -> u64
-    ensures { λ r. ⌜ r ≡ markOf n (now (s .entry)) ⌝ }
+// The fingerprint of a name under a number.
+pub fn fingerprint_of(n: u16, s: &[u8]) -> u64
+    ensures { λ r. ⌜ r ≡ fingerprintOf n (now (s .entry)) ⌝ }
 {
     (n as u64) * 4294967296 + digest(0, s)
 }

@@ -4,10 +4,10 @@ use native.Mathlib.Omega.{arith}
 use borrow.Author.Tests.{eq-eqb, ne-eqb}
 use Rattle.csdl.specs.Model.{modelOf}
 use Rattle.csdl.specs.Path.{segmentAt}
-use Rattle.rules_names.proofs.Marks.{marks-apart}
+use Rattle.rules_names.proofs.Fingerprints.{fingerprints-apart}
 use Rattle.rules_bindings.specs.Bindings.{againBound}
 use Rattle.rules_bindings.proofs.Comparing.{same-counts}
-use Rattle.rules_bindings.proofs.PathMarks.{bindings-apart}
+use Rattle.rules_bindings.proofs.PathFingerprints.{bindings-apart}
 use borrow.Author.Needs.{needs}
 use Rattle.rules_bindings.proofs.bindings.again_bound.Statement.{statement}
 use Rattle.rules_bindings.proofs.bindings.again_bound.Tie as tie
@@ -28,7 +28,7 @@ returns : tie.Need-returns
 returns c =
     let s = c .before .before .before .before .before .before .before in
     let a = s .args in
-    bindings-apart _ (a .j) (a .b) (marks-apart _ (a .b + 1) (a .marks .now) (s .pre .1) (a .j) (a .b) (omega (arith, s .pre .0)) (omega arith) (c .if1 .taken))
+    bindings-apart _ (a .j) (a .b) (fingerprints-apart _ (a .b + 1) (a .fingerprints .now) (s .pre .1) (a .j) (a .b) (omega (arith, s .pre .0)) (omega arith) (c .if1 .taken))
 
 binding-child-requires : tie.Need-binding-child-requires
 binding-child-requires c κs = search needs

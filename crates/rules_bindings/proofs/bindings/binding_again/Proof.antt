@@ -10,10 +10,10 @@ use Rattle.rules_bindings.proofs.bindings.binding_again.Statement.{stat
 use Rattle.rules_bindings.proofs.bindings.binding_again.Tie as tie
 
 abbrev Inv-loop : tie.InvT-loop
-Inv-loop bindings segments names marks b j₀ j = Any (λ i. againBound (modelOf [] [] [] [] [] [] bindings segments names) i b) b j
+Inv-loop bindings segments names fingerprints b j₀ j = Any (λ i. againBound (modelOf [] [] [] [] [] [] bindings segments names) i b) b j
 
 abbrev μ-loop : tie.MeasureT-loop
-μ-loop bindings segments names marks b j₀ j = b - j
+μ-loop bindings segments names fingerprints b j₀ j = b - j
 
 loop-holds : tie.Need-loop-holds Inv-loop μ-loop
 loop-holds c = any-start _ _

@@ -6,21 +6,21 @@ use lib.ListN.{length, length-set}
 use native.Mathlib.Omega.{arith}
 use Rattle.csdl.specs.Model.{modelOf}
 use Rattle.csdl.proofs.Loops.{First, first-start, first-hit, first-next, first-end}
-use Rattle.rules_names.specs.Digests.{Marked}
-use Rattle.rules_names.proofs.Marks.{marked-none, marked-more}
-use Rattle.rules_bindings.specs.Digests.{bindingMark}
+use Rattle.rules_names.specs.Digests.{Fingerprinted}
+use Rattle.rules_names.proofs.Fingerprints.{fingerprinted-none, fingerprinted-more}
+use Rattle.rules_bindings.specs.Digests.{bindingFingerprint}
 use Rattle.rules_bindings.specs.Bindings.{bindingCoded}
 use Rattle.rules_bindings.proofs.Split.{binding-split}
 use Rattle.rules_bindings.proofs.bindings.first_19.Statement.{statement}
 use Rattle.rules_bindings.proofs.bindings.first_19.Tie as tie
 
 abbrev Inv-loop : tie.InvT-loop
-Inv-loop types properties children bindings segments names codes n marks₀ b₀ marks b =
-    (n ≤ 128) × (length marks ≡ 128) × Marked (λ i. bindingMark (modelOf [] [] [] [] [] [] bindings segments names) i) b marks
+Inv-loop types properties children bindings segments names codes n fingerprints₀ b₀ fingerprints b =
+    (n ≤ 128) × (length fingerprints ≡ 128) × Fingerprinted (λ i. bindingFingerprint (modelOf [] [] [] [] [] [] bindings segments names) i) b fingerprints
     × First (λ i. bindingCoded (modelOf [] types properties [] [] children bindings segments names) codes i) n b
 
 abbrev μ-loop : tie.MeasureT-loop
-μ-loop types properties children bindings segments names codes n marks₀ b₀ marks b = n - b
+μ-loop types properties children bindings segments names codes n fingerprints₀ b₀ fingerprints b = n - b
 
 slice-aggregate-binding-again : tie.Need-slice-aggregate-binding-again Inv-loop μ-loop
 slice-aggregate-binding-again c = simp length-set (sym (c .before .before .before .before .loop .inv .1))
@@ -28,7 +28,7 @@ slice-aggregate-binding-again c = simp length-set (sym (c .before .before .befor
 binding-again-requires : tie.Need-binding-again-requires Inv-loop μ-loop
 binding-again-requires c κs =
     let l = c .before .before .before .before .loop in
-    marked-more _ (l .b) (l .marks) _ (omega (arith, l .inv .0, l .inv .1)) (c .before .before .binding-mark .ensures) (l .inv .2)
+    fingerprinted-more _ (l .b) (l .fingerprints) _ (omega (arith, l .inv .0, l .inv .1)) (c .before .before .binding-fingerprint .ensures) (l .inv .2)
 
 returns : tie.Need-returns Inv-loop μ-loop
 returns c = rw (← c .before .before .before .before .before .before .before .binding-count .ensures .0) (first-hit _ _ _ _ (c .before .before .before .before .before .before .loop .inv .3) (c .before .before .before .before .before .loop-test .taken) (rw (c .before .before .before .binding-misled .ensures, c .before .binding-again .ensures) (binding-split _ _ _ _ _ _ _ _)) (c .if1 .taken))
@@ -38,7 +38,7 @@ loop-again c =
     let l = c .before .before .before .before .before .before .loop in (
       l .inv .0,
       simp length-set (l .inv .1),
-      marked-more _ (l .b) (l .marks) _ (omega (arith, l .inv .0, l .inv .1)) (c .before .before .before .before .binding-mark .ensures) (l .inv .2),
+      fingerprinted-more _ (l .b) (l .fingerprints) _ (omega (arith, l .inv .0, l .inv .1)) (c .before .before .before .before .binding-fingerprint .ensures) (l .inv .2),
       first-next _ _ _ _ (l .inv .3) (c .before .before .before .before .before .loop-test .taken) (rw (c .before .before .before .binding-misled .ensures, c .before .binding-again .ensures) (binding-split _ _ _ _ _ _ _ _)) (c .if1 .left),
     )
 
@@ -52,7 +52,7 @@ first-19-spec =
     Inv-loop
     μ-loop
     (λ c κs. search needs)
-    (λ c. (search needs, refl, marked-none _ _, first-start _ _))
+    (λ c. (search needs, refl, fingerprinted-none _ _, first-start _ _))
     (λ c κs. search needs)
     (λ c. search needs)
     (λ c. search needs)

@@ -7,7 +7,7 @@ use Rattle.csdl.specs.Search.{tab}
 use Rattle.csdl.specs.Model.{modelOf}
 use Rattle.csdl.specs.Path.{segmentAt}
 use Rattle.rules_bindings.specs.Digests.{pathDigest}
-use Rattle.rules_bindings.proofs.PathMarks.{digestAfter, digest-start, digest-step, digest-stop}
+use Rattle.rules_bindings.proofs.PathFingerprints.{digestAfter, digest-start, digest-step, digest-stop}
 use Rattle.rules_bindings.proofs.same.path_digest.Statement.{statement}
 use Rattle.rules_bindings.proofs.same.path_digest.Tie as tie
 

@@ -2,7 +2,7 @@ use Prim.Native.Nat.{_+_}
 use native.Mathlib.Omega.{arith}
 use borrow.Author.Tests.{eq-eqb, ne-eqb}
 use Rattle.csdl.specs.Model.{modelOf}
-use Rattle.rules_names.proofs.Marks.{marks-apart}
+use Rattle.rules_names.proofs.Fingerprints.{fingerprints-apart}
 use Rattle.rules_keys.specs.Keys.{againNamed}
 use Rattle.rules_keys.proofs.Split.{keys-apart}
 use borrow.Author.Needs.{needs}
@@ -25,7 +25,7 @@ returns : tie.Need-returns
 returns c =
     let s = c .before .before .before .before .before .before .before in
     let a = s .args in
-    keys-apart _ (a .j) (a .k) (marks-apart _ (a .k + 1) (a .marks .now) (s .pre .1) (a .j) (a .k) (omega (arith, s .pre .0)) (omega arith) (c .if1 .taken))
+    keys-apart _ (a .j) (a .k) (fingerprints-apart _ (a .k + 1) (a .fingerprints .now) (s .pre .1) (a .j) (a .k) (omega (arith, s .pre .0)) (omega arith) (c .if1 .taken))
 
 key-owner-requires : tie.Need-key-owner-requires
 key-owner-requires c κs = search needs

@@ -6,38 +6,38 @@ use lib.ListN.{length, length-set}
 use native.Mathlib.Omega.{arith}
 use Rattle.csdl.specs.Model.{modelOf}
 use Rattle.csdl.proofs.Loops.{First, first-start, first-hit, first-next, first-end}
-use Rattle.rules_names.specs.Digests.{Marked}
-use Rattle.rules_names.proofs.Marks.{marked-none, marked-more}
-use Rattle.rules_keys.specs.Keys.{keyMark, keyCoded}
+use Rattle.rules_names.specs.Digests.{Fingerprinted}
+use Rattle.rules_names.proofs.Fingerprints.{fingerprinted-none, fingerprinted-more}
+use Rattle.rules_keys.specs.Keys.{keyFingerprint, keyCoded}
 use Rattle.rules_keys.proofs.Split.{key-split}
 use Rattle.rules_keys.proofs.keys.first_15.Statement.{statement}
 use Rattle.rules_keys.proofs.keys.first_15.Tie as tie
 
 abbrev Inv-loop : tie.InvT-loop
-Inv-loop types properties keys segments names index codes n marks₀ k₀ marks k =
-    (n ≤ 128) × (length marks ≡ 128) × Marked (λ i. keyMark (modelOf [] [] [] keys [] [] [] segments names) i) k marks
+Inv-loop types properties keys segments names index codes n fingerprints₀ k₀ fingerprints k =
+    (n ≤ 128) × (length fingerprints ≡ 128) × Fingerprinted (λ i. keyFingerprint (modelOf [] [] [] keys [] [] [] segments names) i) k fingerprints
     × First (λ i. keyCoded (modelOf [] types properties keys [] [] [] segments names) codes i) n k
 
 abbrev μ-loop : tie.MeasureT-loop
-μ-loop types properties keys segments names index codes n marks₀ k₀ marks k = n - k
+μ-loop types properties keys segments names index codes n fingerprints₀ k₀ fingerprints k = n - k
 
 key-count-requires : tie.Need-key-count-requires Inv-loop μ-loop
 key-count-requires c κs = search needs
 
 loop-holds : tie.Need-loop-holds Inv-loop μ-loop
-loop-holds c = (search needs, refl, marked-none _ _, first-start _ _)
+loop-holds c = (search needs, refl, fingerprinted-none _ _, first-start _ _)
 
-key-mark-requires : tie.Need-key-mark-requires Inv-loop μ-loop
-key-mark-requires c κs = search needs
+key-fingerprint-requires : tie.Need-key-fingerprint-requires Inv-loop μ-loop
+key-fingerprint-requires c κs = search needs
 
-cast-marks : tie.Need-cast-marks Inv-loop μ-loop
-cast-marks c = search needs
+cast-fingerprints : tie.Need-cast-fingerprints Inv-loop μ-loop
+cast-fingerprints c = search needs
 
-mul-marks : tie.Need-mul-marks Inv-loop μ-loop
-mul-marks c = search needs
+mul-fingerprints : tie.Need-mul-fingerprints Inv-loop μ-loop
+mul-fingerprints c = search needs
 
-array-write-marks : tie.Need-array-write-marks Inv-loop μ-loop
-array-write-marks c = search needs
+array-write-fingerprints : tie.Need-array-write-fingerprints Inv-loop μ-loop
+array-write-fingerprints c = search needs
 
 key-misled-requires : tie.Need-key-misled-requires Inv-loop μ-loop
 key-misled-requires c κs = search needs
@@ -48,7 +48,7 @@ slice-aggregate-key-named c = simp length-set (sym (c .before .before .before .b
 key-named-requires : tie.Need-key-named-requires Inv-loop μ-loop
 key-named-requires c κs =
     let l = c .before .before .before .before .loop in
-    marked-more _ (l .k) (l .marks) _ (omega (arith, l .inv .0, l .inv .1)) (c .before .before .key-mark .ensures) (l .inv .2)
+    fingerprinted-more _ (l .k) (l .fingerprints) _ (omega (arith, l .inv .0, l .inv .1)) (c .before .before .key-fingerprint .ensures) (l .inv .2)
 
 key-misaliased-requires : tie.Need-key-misaliased-requires Inv-loop μ-loop
 key-misaliased-requires c κs = search needs
@@ -70,7 +70,7 @@ loop-again c =
     let l = c .before .before .before .before .before .before .before .loop in (
       l .inv .0,
       simp length-set (l .inv .1),
-      marked-more _ (l .k) (l .marks) _ (omega (arith, l .inv .0, l .inv .1)) (c .before .before .before .before .before .key-mark .ensures) (l .inv .2),
+      fingerprinted-more _ (l .k) (l .fingerprints) _ (omega (arith, l .inv .0, l .inv .1)) (c .before .before .before .before .before .key-fingerprint .ensures) (l .inv .2),
       first-next _ _ _ _ (l .inv .3) (c .before .before .before .before .before .before .loop-test .taken) (rw (c .before .before .before .before .key-misled .ensures, c .before .before .key-named .ensures, c .before .key-misaliased .ensures) (key-split _ _ _ _ _ _ _)) (c .if1 .left),
     )
 
@@ -85,10 +85,10 @@ first-15-spec =
     μ-loop
     key-count-requires
     loop-holds
-    key-mark-requires
-    cast-marks
-    mul-marks
-    array-write-marks
+    key-fingerprint-requires
+    cast-fingerprints
+    mul-fingerprints
+    array-write-fingerprints
     key-misled-requires
     slice-aggregate-key-named
     key-named-requires

@@ -10,10 +10,10 @@ use Rattle.rules_keys.proofs.keys.key_named.Statement.{statement}
 use Rattle.rules_keys.proofs.keys.key_named.Tie as tie
 
 abbrev Inv-loop : tie.InvT-loop
-Inv-loop keys segments names marks k j₀ j = Any (λ i. againNamed (modelOf [] [] [] keys [] [] [] segments names) i k) k j
+Inv-loop keys segments names fingerprints k j₀ j = Any (λ i. againNamed (modelOf [] [] [] keys [] [] [] segments names) i k) k j
 
 abbrev μ-loop : tie.MeasureT-loop
-μ-loop keys segments names marks k j₀ j = k - j
+μ-loop keys segments names fingerprints k j₀ j = k - j
 
 loop-holds : tie.Need-loop-holds Inv-loop μ-loop
 loop-holds c = any-start _ _

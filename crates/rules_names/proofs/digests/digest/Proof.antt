@@ -4,7 +4,7 @@ use mathlib.Core.Path.{_≡_, refl, sym, _∙_}
 use native.Mathlib.Omega.{arith}
 use lib.ListN.{length, drop}
 use Rattle.rules_names.specs.Digests.{digestFrom}
-use Rattle.rules_names.proofs.Marks.{digest-next, digest-end}
+use Rattle.rules_names.proofs.Fingerprints.{digest-next, digest-end}
 use Rattle.rules_names.proofs.digests.digest.Statement.{statement}
 use Rattle.rules_names.proofs.digests.digest.Tie as tie
 

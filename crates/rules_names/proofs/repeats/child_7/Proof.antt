@@ -9,10 +9,10 @@ use Rattle.rules_names.proofs.repeats.child_7.Statement.{statement}
 use Rattle.rules_names.proofs.repeats.child_7.Tie as tie
 
 abbrev Inv-loop : tie.InvT-loop
-Inv-loop children names marks h j₀ j = Any (λ k. sameChild (modelOf [] [] [] [] [] children [] [] names) h k) h j
+Inv-loop children names fingerprints h j₀ j = Any (λ k. sameChild (modelOf [] [] [] [] [] children [] [] names) h k) h j
 
 abbrev μ-loop : tie.MeasureT-loop
-μ-loop children names marks h j₀ j = h - j
+μ-loop children names fingerprints h j₀ j = h - j
 
 loop-holds : tie.Need-loop-holds Inv-loop μ-loop
 loop-holds c = search any

@@ -7,34 +7,34 @@ use native.Mathlib.Omega.{arith}
 use Rattle.csdl.specs.Model.{modelOf}
 use Rattle.csdl.specs.Form.{child7b}
 use Rattle.csdl.proofs.Loops.{First, first-start, first-hit, first-next, first-end}
-use Rattle.rules_names.specs.Digests.{childMark, Marked}
-use Rattle.rules_names.proofs.Marks.{marked-none, marked-more}
+use Rattle.rules_names.specs.Digests.{childFingerprint, Fingerprinted}
+use Rattle.rules_names.proofs.Fingerprints.{fingerprinted-none, fingerprinted-more}
 use Rattle.rules_names.proofs.repeats.first_child_7.Statement.{statement}
 use Rattle.rules_names.proofs.repeats.first_child_7.Tie as tie
 
 abbrev Inv-loop : tie.InvT-loop
-Inv-loop children names n marks₀ h₀ marks h = (n ≤ 64) × (length marks ≡ 64) × Marked (λ v. childMark (modelOf [] [] [] [] [] children [] [] names) v) h marks × First (λ v. child7b (modelOf [] [] [] [] [] children [] [] names) v) n h
+Inv-loop children names n fingerprints₀ h₀ fingerprints h = (n ≤ 64) × (length fingerprints ≡ 64) × Fingerprinted (λ v. childFingerprint (modelOf [] [] [] [] [] children [] [] names) v) h fingerprints × First (λ v. child7b (modelOf [] [] [] [] [] children [] [] names) v) n h
 
 abbrev μ-loop : tie.MeasureT-loop
-μ-loop children names n marks₀ h₀ marks h = n - h
+μ-loop children names n fingerprints₀ h₀ fingerprints h = n - h
 
 child-count-requires : tie.Need-child-count-requires Inv-loop μ-loop
 child-count-requires c κs = search needs
 
 loop-holds : tie.Need-loop-holds Inv-loop μ-loop
-loop-holds c = (search needs, refl, marked-none _ _, first-start _ _)
+loop-holds c = (search needs, refl, fingerprinted-none _ _, first-start _ _)
 
-child-mark-requires : tie.Need-child-mark-requires Inv-loop μ-loop
-child-mark-requires c κs = search needs
+child-fingerprint-requires : tie.Need-child-fingerprint-requires Inv-loop μ-loop
+child-fingerprint-requires c κs = search needs
 
-cast-marks : tie.Need-cast-marks Inv-loop μ-loop
-cast-marks c = search needs
+cast-fingerprints : tie.Need-cast-fingerprints Inv-loop μ-loop
+cast-fingerprints c = search needs
 
-mul-marks : tie.Need-mul-marks Inv-loop μ-loop
-mul-marks c = search needs
+mul-fingerprints : tie.Need-mul-fingerprints Inv-loop μ-loop
+mul-fingerprints c = search needs
 
-array-write-marks : tie.Need-array-write-marks Inv-loop μ-loop
-array-write-marks c = search needs
+array-write-fingerprints : tie.Need-array-write-fingerprints Inv-loop μ-loop
+array-write-fingerprints c = search needs
 
 slice-aggregate-child-7 : tie.Need-slice-aggregate-child-7 Inv-loop μ-loop
 slice-aggregate-child-7 c = simp length-set (sym (c .before .before .before .loop .inv .1))
@@ -42,7 +42,7 @@ slice-aggregate-child-7 c = simp length-set (sym (c .before .before .before .loo
 child-7-requires : tie.Need-child-7-requires Inv-loop μ-loop
 child-7-requires c κs =
     let l = c .before .before .before .loop in
-    marked-more _ (l .h) (l .marks) _ (omega (arith, l .inv .0, l .inv .1)) (c .before .child-mark .ensures) (l .inv .2)
+    fingerprinted-more _ (l .h) (l .fingerprints) _ (omega (arith, l .inv .0, l .inv .1)) (c .before .child-fingerprint .ensures) (l .inv .2)
 
 add-result : tie.Need-add-result Inv-loop μ-loop
 add-result c = search needs
@@ -63,7 +63,7 @@ loop-again c =
     let l = c .before .before .before .before .before .loop in (
       l .inv .0,
       simp length-set (l .inv .1),
-      marked-more _ (l .h) (l .marks) _ (omega (arith, l .inv .0, l .inv .1)) (c .before .before .before .child-mark .ensures) (l .inv .2),
+      fingerprinted-more _ (l .h) (l .fingerprints) _ (omega (arith, l .inv .0, l .inv .1)) (c .before .before .before .child-fingerprint .ensures) (l .inv .2),
       first-next _ _ _ _ (l .inv .3) (c .before .before .before .before .loop-test .taken) (c .before .child-7 .ensures) (c .if1 .left),
     )
 
@@ -78,10 +78,10 @@ first-child-7-spec =
     μ-loop
     child-count-requires
     loop-holds
-    child-mark-requires
-    cast-marks
-    mul-marks
-    array-write-marks
+    child-fingerprint-requires
+    cast-fingerprints
+    mul-fingerprints
+    array-write-fingerprints
     slice-aggregate-child-7
     child-7-requires
     add-result

@@ -7,34 +7,34 @@ use native.Mathlib.Omega.{arith}
 use Rattle.csdl.specs.Model.{modelOf}
 use Rattle.csdl.specs.Form.{type7a}
 use Rattle.csdl.proofs.Loops.{First, first-start, first-hit, first-next, first-end}
-use Rattle.rules_names.specs.Digests.{typeMark, Marked}
-use Rattle.rules_names.proofs.Marks.{marked-none, marked-more}
+use Rattle.rules_names.specs.Digests.{typeFingerprint, Fingerprinted}
+use Rattle.rules_names.proofs.Fingerprints.{fingerprinted-none, fingerprinted-more}
 use Rattle.rules_names.proofs.repeats.first_type_7.Statement.{statement}
 use Rattle.rules_names.proofs.repeats.first_type_7.Tie as tie
 
 abbrev Inv-loop : tie.InvT-loop
-Inv-loop types names n marks₀ t₀ marks t = (n ≤ 64) × (length marks ≡ 64) × Marked (λ v. typeMark (modelOf [] types [] [] [] [] [] [] names) v) t marks × First (λ v. type7a (modelOf [] types [] [] [] [] [] [] names) v) n t
+Inv-loop types names n fingerprints₀ t₀ fingerprints t = (n ≤ 64) × (length fingerprints ≡ 64) × Fingerprinted (λ v. typeFingerprint (modelOf [] types [] [] [] [] [] [] names) v) t fingerprints × First (λ v. type7a (modelOf [] types [] [] [] [] [] [] names) v) n t
 
 abbrev μ-loop : tie.MeasureT-loop
-μ-loop types names n marks₀ t₀ marks t = n - t
+μ-loop types names n fingerprints₀ t₀ fingerprints t = n - t
 
 type-count-requires : tie.Need-type-count-requires Inv-loop μ-loop
 type-count-requires c κs = search needs
 
 loop-holds : tie.Need-loop-holds Inv-loop μ-loop
-loop-holds c = (search needs, refl, marked-none _ _, first-start _ _)
+loop-holds c = (search needs, refl, fingerprinted-none _ _, first-start _ _)
 
-type-mark-requires : tie.Need-type-mark-requires Inv-loop μ-loop
-type-mark-requires c κs = search needs
+type-fingerprint-requires : tie.Need-type-fingerprint-requires Inv-loop μ-loop
+type-fingerprint-requires c κs = search needs
 
-cast-marks : tie.Need-cast-marks Inv-loop μ-loop
-cast-marks c = search needs
+cast-fingerprints : tie.Need-cast-fingerprints Inv-loop μ-loop
+cast-fingerprints c = search needs
 
-mul-marks : tie.Need-mul-marks Inv-loop μ-loop
-mul-marks c = search needs
+mul-fingerprints : tie.Need-mul-fingerprints Inv-loop μ-loop
+mul-fingerprints c = search needs
 
-array-write-marks : tie.Need-array-write-marks Inv-loop μ-loop
-array-write-marks c = search needs
+array-write-fingerprints : tie.Need-array-write-fingerprints Inv-loop μ-loop
+array-write-fingerprints c = search needs
 
 slice-aggregate-type-7 : tie.Need-slice-aggregate-type-7 Inv-loop μ-loop
 slice-aggregate-type-7 c = simp length-set (sym (c .before .before .before .loop .inv .1))
@@ -42,7 +42,7 @@ slice-aggregate-type-7 c = simp length-set (sym (c .before .before .before .loop
 type-7-requires : tie.Need-type-7-requires Inv-loop μ-loop
 type-7-requires c κs =
     let l = c .before .before .before .loop in
-    marked-more _ (l .t) (l .marks) _ (omega (arith, l .inv .0, l .inv .1)) (c .before .type-mark .ensures) (l .inv .2)
+    fingerprinted-more _ (l .t) (l .fingerprints) _ (omega (arith, l .inv .0, l .inv .1)) (c .before .type-fingerprint .ensures) (l .inv .2)
 
 add-result : tie.Need-add-result Inv-loop μ-loop
 add-result c = search needs
@@ -63,7 +63,7 @@ loop-again c =
     let l = c .before .before .before .before .before .loop in (
       l .inv .0,
       simp length-set (l .inv .1),
-      marked-more _ (l .t) (l .marks) _ (omega (arith, l .inv .0, l .inv .1)) (c .before .before .before .type-mark .ensures) (l .inv .2),
+      fingerprinted-more _ (l .t) (l .fingerprints) _ (omega (arith, l .inv .0, l .inv .1)) (c .before .before .before .type-fingerprint .ensures) (l .inv .2),
       first-next _ _ _ _ (l .inv .3) (c .before .before .before .before .loop-test .taken) (c .before .type-7 .ensures) (c .if1 .left),
     )
 
@@ -78,10 +78,10 @@ first-type-7-spec =
     μ-loop
     type-count-requires
     loop-holds
-    type-mark-requires
-    cast-marks
-    mul-marks
-    array-write-marks
+    type-fingerprint-requires
+    cast-fingerprints
+    mul-fingerprints
+    array-write-fingerprints
     slice-aggregate-type-7
     type-7-requires
     add-result

@@ -1,7 +1,7 @@
 use Prim.Native.Nat.{_+_}
 use native.Mathlib.Omega.{arith}
 use Rattle.csdl.specs.Model.{modelOf}
-use Rattle.rules_names.proofs.Marks.{marks-apart, children-apart}
+use Rattle.rules_names.proofs.Fingerprints.{fingerprints-apart, children-apart}
 use borrow.Author.Needs.{needs}
 use Rattle.rules_names.proofs.repeats.same_child.Statement.{statement}
 use Rattle.rules_names.proofs.repeats.same_child.Tie as tie
@@ -22,7 +22,7 @@ returns : tie.Need-returns
 returns c =
     let s = c .before .before .before .before .before .before in
     let a = s .args in
-    children-apart _ (a .h) (a .j) (marks-apart _ (a .h + 1) (a .marks .now) (s .pre .1) (a .j) (a .h) (omega (arith, s .pre .0)) (omega arith) (c .if1 .taken))
+    children-apart _ (a .h) (a .j) (fingerprints-apart _ (a .h + 1) (a .fingerprints .now) (s .pre .1) (a .j) (a .h) (omega (arith, s .pre .0)) (omega arith) (c .if1 .taken))
 
 child-name-requires : tie.Need-child-name-requires
 child-name-requires c κs = search needs

@@ -4,7 +4,7 @@ use native.Mathlib.Omega.{arith}
 use borrow.Author.Tests.{eq-eqb, ne-eqb}
 use Rattle.csdl.specs.Model.{modelOf}
 use Rattle.csdl.specs.Form.{sameType}
-use Rattle.rules_names.proofs.Marks.{marks-apart, types-apart}
+use Rattle.rules_names.proofs.Fingerprints.{fingerprints-apart, types-apart}
 use borrow.Author.Needs.{needs}
 use Rattle.rules_names.proofs.repeats.same_type.Statement.{statement}
 use Rattle.rules_names.proofs.repeats.same_type.Tie as tie
@@ -25,7 +25,7 @@ returns : tie.Need-returns
 returns c =
     let s = c .before .before .before .before .before .before in
     let a = s .args in
-    types-apart _ (a .t) (a .u) (marks-apart _ (a .t + 1) (a .marks .now) (s .pre .1) (a .u) (a .t) (omega (arith, s .pre .0)) (omega arith) (c .if1 .taken))
+    types-apart _ (a .t) (a .u) (fingerprints-apart _ (a .t + 1) (a .fingerprints .now) (s .pre .1) (a .u) (a .t) (omega (arith, s .pre .0)) (omega arith) (c .if1 .taken))
 
 type-schema-requires : tie.Need-type-schema-requires
 type-schema-requires c κs = search needs

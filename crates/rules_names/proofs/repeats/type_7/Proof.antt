@@ -8,10 +8,10 @@ use Rattle.rules_names.proofs.repeats.type_7.Statement.{statement}
 use Rattle.rules_names.proofs.repeats.type_7.Tie as tie
 
 abbrev Inv-loop : tie.InvT-loop
-Inv-loop types names marks t u₀ u = Any (λ v. sameType (modelOf [] types [] [] [] [] [] [] names) t v) t u
+Inv-loop types names fingerprints t u₀ u = Any (λ v. sameType (modelOf [] types [] [] [] [] [] [] names) t v) t u
 
 abbrev μ-loop : tie.MeasureT-loop
-μ-loop types names marks t u₀ u = t - u
+μ-loop types names fingerprints t u₀ u = t - u
 
 loop-holds : tie.Need-loop-holds Inv-loop μ-loop
 loop-holds c = search any

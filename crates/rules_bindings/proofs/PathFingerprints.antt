@@ -1,4 +1,4 @@
--- Digests of paths segment by segment, and what marks of bindings that differ say. Assumes nothing.
+-- Digests of paths segment by segment, and what fingerprints of bindings that differ say. Assumes nothing.
 use Prim.Native.Nat.{ℕ, suc, _+_, _-_, _≤_, _<_}
 use mathlib.Core.Path.{_≡_, refl}
 use mathlib.Core.List.{List, [], _∷_}
@@ -12,7 +12,7 @@ use Rattle.csdl.specs.Search.{tab}
 use Rattle.csdl.specs.Model.{Model}
 use Rattle.csdl.specs.Path.{Segment, segmentsOf, sameSegment, sameSegments}
 use Rattle.csdl.specs.Path.Segment.{name, cast}
-use Rattle.rules_bindings.specs.Digests.{segmentDigest, pathDigest, bindingMark}
+use Rattle.rules_bindings.specs.Digests.{segmentDigest, pathDigest, bindingFingerprint}
 use Rattle.rules_bindings.specs.Bindings.{againBound}
 
 both : (p q : Bool) → (p && q) ≡ true → (p ≡ true) × (q ≡ true)
@@ -35,8 +35,8 @@ path-alike d (g ∷ gs) (h ∷ hs) e =
     let p = both (sameSegment g h) (sameSegments gs hs) e in
     rw (segment-alike d g h (p .0)) (path-alike (segmentDigest d h) gs hs (p .1))
 
-pub bindings-apart : (m : Model) (j b : ℕ) → (bindingMark m j ≡ bindingMark m b → ⊥) → false ≡ againBound m j b
-unfolding bindingMark againBound
+pub bindings-apart : (m : Model) (j b : ℕ) → (bindingFingerprint m j ≡ bindingFingerprint m b → ⊥) → false ≡ againBound m j b
+unfolding bindingFingerprint againBound
 bindings-apart m j b n = go (eqb (m .bindingChild j) (m .bindingChild b) && sameSegments (segmentsOf m (m .bindingPath j)) (segmentsOf m (m .bindingPath b))) refl
   where
     go : (x : Bool) → (eqb (m .bindingChild j) (m .bindingChild b) && sameSegments (segmentsOf m (m .bindingPath j)) (segmentsOf m (m .bindingPath b))) ≡ x → false ≡ x
