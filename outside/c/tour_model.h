@@ -22,7 +22,7 @@
 #define TOUR_LARGEST_MODEL 13348    /* bytes of the largest model image that rule 1 lets pass */
 #define TOUR_LARGEST_INSTANCE 14344 /* bytes of the largest instance image that rule 20 lets pass */
 
-#define TOUR_STACK_MODEL 20480    /* bytes of stack that tour_check_model needs at most */
+#define TOUR_STACK_MODEL 32768    /* bytes of stack that tour_check_model needs at most */
 #define TOUR_STACK_INSTANCE 49152 /* tour_check_instance */
 #define TOUR_STACK_WALK 49152     /* tour_walk */
 

@@ -1,17 +1,17 @@
 // The check of a stored instance, and walks in it.
 use crate::line;
 use crate::models::FILL;
-use crate::models::MODEL_SIZE;
 use crate::models::load;
 use crate::print;
 use csdl::InstanceAnswer;
 use csdl::WalkAnswer;
+use input::IMAGE_SIZE;
 
 // A byte more than the largest image of an instance.
 const INSTANCE_SIZE: usize = 14345;
 
 pub fn check(text: &[u8]) {
-    let mut image = [0u8; MODEL_SIZE];
+    let mut image = [0u8; IMAGE_SIZE];
     let m = load(line::model(text), &mut image);
     let mut instance = [0u8; INSTANCE_SIZE];
     let n = load(line::instance(text), &mut instance);
@@ -19,7 +19,7 @@ pub fn check(text: &[u8]) {
 }
 
 pub fn walk(text: &[u8]) {
-    let mut image = [0u8; MODEL_SIZE];
+    let mut image = [0u8; IMAGE_SIZE];
     let m = load(line::model(text), &mut image);
     let mut instance = [0u8; INSTANCE_SIZE];
     let n = load(line::instance(text), &mut instance);

@@ -50,9 +50,9 @@ pub fn node(text: &[u8]) -> u32 {
 }
 
 // What stands in a column, without the blanks that pad it.
-fn column(text: &[u8], start: u16, width: u16) -> &[u8] {
+fn column(text: &[u8], start: u32, width: u32) -> &[u8] {
     let padded = packed::part_of(text, start, width);
-    packed::part_of(padded, 0, before_blank(padded))
+    packed::part_of(padded, 0, before_blank(padded) as u32)
 }
 
 // How many bytes stand before the first blank.

@@ -6,7 +6,7 @@ mod models;
 mod print;
 
 // One case: `m`, the check of a model; `i`, that of an instance; `w`, a walk.
-fn run(text: &[u8]) {
+fn answer(text: &[u8]) {
     io::write_all(1, line::name(text));
     io::write_all(1, b" ");
     match line::letter(text) {
@@ -20,21 +20,21 @@ fn run(text: &[u8]) {
     io::write_all(1, b"\n");
 }
 
-// Reads a line, runs its case and answers whether to go on.
-fn run_next(fd: i32) -> bool {
+// Reads a line, answers its case and says whether to go on.
+fn answer_next(fd: i32) -> bool {
     let mut text = [0u8; line::SIZE];
     let n = io::read_full(fd, &mut text);
     if n < line::SIZE {
         return false;
     }
-    run(&text);
+    answer(&text);
     true
 }
 
-// A proved loop has to end, so it counts its turns down, from a number that no run uses up.
-fn run_all(fd: i32) {
+// A proved loop has to end, so it counts its turns down, from a number that no list uses up.
+fn answer_all(fd: i32) {
     let mut turns = u64::MAX;
-    while turns > 0 && run_next(fd) {
+    while turns > 0 && answer_next(fd) {
         turns -= 1;
     }
 }
@@ -45,6 +45,6 @@ fn main() {
         os::fail(b"list");
         return;
     }
-    run_all(fd);
+    answer_all(fd);
     libc::close(fd);
 }

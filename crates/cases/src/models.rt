@@ -3,9 +3,7 @@ ghost use Rattle.io.specs.Counts.{Counts};
 use crate::line;
 use crate::print;
 use csdl::ModelAnswer;
-
-// A byte more than the largest image of a model, so that one that is too long is seen to be.
-pub const MODEL_SIZE: usize = 13349;
+use input::IMAGE_SIZE;
 
 // What each byte of a buffer holds before the call.
 pub const FILL: u8 = 238;
@@ -27,7 +25,7 @@ pub fn load(path: &[u8], image: &mut [u8]) -> usize
 }
 
 pub fn check(text: &[u8]) {
-    let mut image = [0u8; MODEL_SIZE];
+    let mut image = [0u8; IMAGE_SIZE];
     let n = load(line::model(text), &mut image);
     let mut buffer = [FILL; 4096];
     let answer = check_lent(&image[..n], &mut buffer, line::lent(text));

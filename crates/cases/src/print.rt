@@ -14,7 +14,7 @@ pub fn bytes(word: &[u8], buffer: &[u8], count: u32) {
         return;
     }
     io::write_all(1, word);
-    hex(packed::part_of(buffer, 0, (count % 65536) as u16));
+    hex(packed::part_of(buffer, 0, count));
 }
 
 pub fn refused(rule: u16, place: u16) {

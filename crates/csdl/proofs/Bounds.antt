@@ -12,7 +12,7 @@ use Rattle.packed.specs.Bytes.{between}
 use Rattle.packed.proofs.Laws.{field-lt}
 use Rattle.csdl.specs.Model.{places, modelOf}
 use Rattle.csdl.specs.Image.{header, modelIn, typesFrom, propertiesFrom, keysFrom, constraintsFrom, childrenFrom, bindingsFrom, segmentsFrom, namesFrom, imageEnd, image1, image1a, image1b, image1c, image1d}
-use Rattle.csdl.specs.Instance.{instanceIn, instanceOf, parts, slotsFrom, itemsFrom, instanceEnd, image20, image20a, image20b, image20c, image20d}
+use Rattle.csdl.specs.Instance.{itemForm, instanceIn, instanceOf, instancePlaces, slotsFrom, itemsFrom, image20, image20a, image20b, image20c, image20d}
 use Rattle.csdl.specs.Verdict.{Stage, modelStages, modelAnswer}
 use Rattle.csdl.specs.Verdict.Answer.{refused}
 use Rattle.csdl.specs.Verdict.Stage.{whole, each}
@@ -71,9 +71,9 @@ places-few image =
       field-lt image 128 16,
     )
 
-pub parts-few : (image : List ℕ) → parts (instanceIn image) < 4294967296
+pub instance-places-few : (image : List ℕ) → instancePlaces (instanceIn image) < 4294967296
 unfolding instanceIn instanceOf
-parts-few image =
+instance-places-few image =
     omega (
       arith,
       part-most image 8 (4 * header image 1),
@@ -104,14 +104,14 @@ later-refusal image rule place low =
     let b = low .broken in
     (broken-from n 1 stages rule place refl b, broken-to n 19 stages rule place refl b, omega (arith, broken-place n stages rule place b, places-few image))
 
-conform-refusal : (model image : List ℕ) (rule place : ℕ) → Lowest (parts (instanceIn image)) (conformStages model image) rule place →
+conform-refusal : (model image : List ℕ) (rule place : ℕ) → Lowest (instancePlaces (instanceIn image)) (conformStages model image) rule place →
     (20 ≤ rule) × (rule ≤ 26) × (place < 4294967296)
 unfolding ascends upTo instanceStages
 conform-refusal model image rule place low =
-    let n = parts (instanceIn image) in
+    let n = instancePlaces (instanceIn image) in
     let stages = conformStages model image in
     let b = low .broken in
-    (broken-from n 20 stages rule place refl b, broken-to n 26 stages rule place refl b, omega (arith, broken-place n stages rule place b, parts-few image))
+    (broken-from n 20 stages rule place refl b, broken-to n 26 stages rule place refl b, omega (arith, broken-place n stages rule place b, instance-places-few image))
 
 pub instance-refusal : (model image : List ℕ) (rule place : ℕ) → instanceAnswer model image ≡ refused rule place →
     (1 ≤ rule) × (rule ≤ 26) × (place < 4294967296)
@@ -160,8 +160,8 @@ instance-most image h =
     let n = header image 1 in
     let s = header image 2 in
     let k = header image 3 in
-    let d = or-no (image20a image || image20b image || image20c image) (image20d image) h in
-    let b = or-no (image20a image || image20b image) (image20c image) (d .0) in
+    let d = or-no (image20a image || image20b itemForm image || image20c image) (image20d itemForm image) h in
+    let b = or-no (image20a image || image20b itemForm image) (image20c image) (d .0) in
     let c = or-no (ltb 256 n || ltb 1024 s) (ltb 2048 k) (b .1) in
     let f = or-no (ltb 256 n) (ltb 1024 s) (c .0) in
     let nm : n ≤ 256 = ltb-false _ _ (f .0) in

@@ -6,8 +6,9 @@ use native.Mathlib.Omega.{arith}
 use lib.Dec.{eqb, eqb·suc-zero}
 use Rattle.csdl.specs.Search.{some, ifFound}
 use Rattle.csdl.specs.Model.{Model}
-use Rattle.csdl.specs.Path.{Kind, kinds}
-use Rattle.csdl.specs.Path.Kind.{partner, key, dependent, principal, binding, target}
+use Rattle.csdl.specs.Path.{kinds}
+use Rattle.csdl.specs.declared.PathKind.{PathKind}
+use Rattle.csdl.specs.declared.PathKind.the-variants.{Partner, Key, Dependent, Principal, Binding, Target}
 use Rattle.csdl.specs.Paths.{unresolved, segment14}
 use Rattle.csdl.proofs.Logic.{or-no}
 
@@ -27,14 +28,14 @@ rule14-is m g = either (m .isCast g) (unresolved m g)
     either false false = refl
 
 -- The list of kinds is complete: a test that no kind of it passes is passed by none.
-pub no-kind : (test : Kind → Bool) → some test kinds ≡ false → (w : Kind) → test w ≡ false
+pub no-kind : (test : PathKind → Bool) → some test kinds ≡ false → (w : PathKind) → test w ≡ false
 unfolding some
-no-kind test e partner = or-no (test partner) _ e .0
-no-kind test e key = or-no (test key) _ (or-no (test partner) _ e .1) .0
-no-kind test e dependent = or-no (test dependent) _ (or-no (test key) _ (or-no (test partner) _ e .1) .1) .0
-no-kind test e principal = or-no (test principal) _ (or-no (test dependent) _ (or-no (test key) _ (or-no (test partner) _ e .1) .1) .1) .0
-no-kind test e binding =
-    or-no (test binding) _ (or-no (test principal) _ (or-no (test dependent) _ (or-no (test key) _ (or-no (test partner) _ e .1) .1) .1) .1) .0
-no-kind test e target =
-    or-no (test target) _
-    (or-no (test binding) _ (or-no (test principal) _ (or-no (test dependent) _ (or-no (test key) _ (or-no (test partner) _ e .1) .1) .1) .1) .1) .0
+no-kind test e Partner = or-no (test Partner) _ e .0
+no-kind test e Key = or-no (test Key) _ (or-no (test Partner) _ e .1) .0
+no-kind test e Dependent = or-no (test Dependent) _ (or-no (test Key) _ (or-no (test Partner) _ e .1) .1) .0
+no-kind test e Principal = or-no (test Principal) _ (or-no (test Dependent) _ (or-no (test Key) _ (or-no (test Partner) _ e .1) .1) .1) .0
+no-kind test e Binding =
+    or-no (test Binding) _ (or-no (test Principal) _ (or-no (test Dependent) _ (or-no (test Key) _ (or-no (test Partner) _ e .1) .1) .1) .1) .0
+no-kind test e Target =
+    or-no (test Target) _
+    (or-no (test Binding) _ (or-no (test Principal) _ (or-no (test Dependent) _ (or-no (test Key) _ (or-no (test Partner) _ e .1) .1) .1) .1) .1) .0

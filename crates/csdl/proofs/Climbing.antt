@@ -1,13 +1,14 @@
 -- The climb finds exactly the numbers above, and the nearest answer is found, where as many steps are left as there are numbers.
 use Prim.Native.Nat.{ℕ, zero, suc, _+_, _-_, _≤_, _<_}
 use mathlib.Core.Path.{_≡_, refl, sym, ap, _∙_}
-use mathlib.Core.Bool.{Bool, true, false, false≢true, cond}
+use mathlib.Core.Bool.{Bool, true, false, false≢true, cond, _||_}
 use mathlib.Core.Logic.{_↔_, _⊎_, inl, inr}
 use native.Mathlib.Nat.{add-suc, add-zero}
 use native.Mathlib.Omega.{arith}
 use lib.Dec.{eqb, eqb·suc-zero}
 use borrow.Author.Tests.{eqb-true, eq-eqb}
-use Rattle.csdl.specs.Climb.{climb, nearest}
+use Rattle.csdl.specs.Search.{ifFound, orElse}
+use Rattle.csdl.specs.Climb.{climb, nearest, topmost}
 use Rattle.csdl.proofs.Settle.{by-n}
 
 -- a stands above t: it is the next of t, or above the next. `next t` is 0 for none, else the number above t plus 1.
@@ -15,15 +16,33 @@ pub data Above (next : ℕ → ℕ) (a : ℕ) : ℕ → Type 0 where
   is-next : {t : ℕ} → next t ≡ suc a → Above next a t
   of-next : {t u : ℕ} → next t ≡ suc u → Above next a u → Above next a t
 
+-- What f makes of the number of a partial answer, by the test that there is none, as code asks it.
+pub found-test : {A : Type 0} (d : A) (f : ℕ → A) (n : ℕ) → ifFound d f n ≡ cond (eqb n 0) d (f (n - 1))
+found-test d f zero = refl
+found-test d f (suc k) = let o : suc k - 1 ≡ k = omega arith in rw (eqb·suc-zero k, o)
+
+module _ (next : ℕ → ℕ) (left t : ℕ) where
+  pub climb-test : (a : ℕ) → climb next (suc left) a t ≡ cond (eqb (next t) 0) false (eqb (next t - 1) a || climb next left a (next t - 1))
+  unfolding climb
+  climb-test a = found-test false (λ b. eqb b a || climb next left a b) (next t)
+
+  pub nearest-test : (own : ℕ → ℕ) → nearest own next (suc left) t ≡ orElse (own t) (cond (eqb (next t) 0) 0 (nearest own next left (next t - 1)))
+  unfolding nearest
+  nearest-test own = ap (orElse (own t)) (found-test 0 (λ b. nearest own next left b) (next t))
+
+  pub topmost-test : topmost next (suc left) t ≡ cond (eqb (next t) 0) t (topmost next left (next t - 1))
+  unfolding topmost
+  topmost-test = found-test t (λ b. topmost next left b) (next t)
+
 module _ (next : ℕ → ℕ) (a : ℕ) where
   pub climb-none : (l t : ℕ) → next t ≡ 0 → climb next l a t ≡ false
   unfolding climb
   climb-none zero t e = refl
   climb-none (suc l) t e = rw e
 
-  pub climb-up : (l t u : ℕ) → next t ≡ suc u → climb next (suc l) a t ≡ cond (eqb u a) true (climb next l a u)
+  pub climb-up : (l t u : ℕ) → next t ≡ suc u → climb next (suc l) a t ≡ eqb u a || climb next l a u
   unfolding climb
-  climb-up l t u e = let o : suc u - 1 ≡ u = omega arith in rw (e, o, eqb·suc-zero u)
+  climb-up l t u e = rw e
 
   climb-out : (t : ℕ) → climb next 0 a t ≡ true → ⊥
   unfolding climb
@@ -34,7 +53,7 @@ module _ (next : ℕ → ℕ) (a : ℕ) where
       → ((u : ℕ) → next t ≡ suc u → climb next l a u ≡ true → P) → P
   step {P} l t h here there = go (next t) refl
     where
-      pass : (u : ℕ) → next t ≡ suc u → (b : Bool) → eqb u a ≡ b → cond b true (climb next l a u) ≡ true → P
+      pass : (u : ℕ) → next t ≡ suc u → (b : Bool) → eqb u a ≡ b → b || climb next l a u ≡ true → P
       pass u e true q r = here u e (eqb-true u a q)
       pass u e false q r = there u e r
 
@@ -47,7 +66,7 @@ module _ (next : ℕ → ℕ) (a : ℕ) where
   climb-sound zero t h = absurd (climb-out t h)
   climb-sound (suc l) t h = step l t h (λ u e q. is-next (e ∙ ap suc q)) (λ u e r. of-next e (climb-sound l u r))
 
-  either : (b c : Bool) → c ≡ true → cond b true c ≡ true
+  either : (b c : Bool) → c ≡ true → b || c ≡ true
   either true c e = refl
   either false c e = e
 
@@ -62,9 +81,9 @@ module _ (next : ℕ → ℕ) (a : ℕ) where
   enough (is-next {t} e) = (1, hit 0 t e)
   enough (of-next {t} {u} e r) = let w = enough r in (suc (w .0), more (w .0) t u e (w .1))
 
-  grows : (k t : ℕ) → climb next k a t ≡ true → climb next (suc k) a t ≡ true
-  grows zero t h = absurd (climb-out t h)
-  grows (suc k) t h = step k t h (λ u e q. hit (suc k) t (e ∙ ap suc q)) (λ u e r. more (suc k) t u e (grows k u r))
+  pub climb-grows : (k t : ℕ) → climb next k a t ≡ true → climb next (suc k) a t ≡ true
+  climb-grows zero t h = absurd (climb-out t h)
+  climb-grows (suc k) t h = step k t h (λ u e q. hit (suc k) t (e ∙ ap suc q)) (λ u e r. more (suc k) t u e (climb-grows k u r))
 
   module _ (n : ℕ) (closed : (t : ℕ) → t < n → next t ≤ n) where
     follows : (k : ℕ) → ((t : ℕ) → t < n → climb next k a t ≡ climb next (suc k) a t) → (t : ℕ) → t < n → climb next (suc k) a t ≡ climb next (suc (suc k)) a t
@@ -72,10 +91,10 @@ module _ (next : ℕ → ℕ) (a : ℕ) where
       where
         go : (v : ℕ) → next t ≡ v → climb next (suc k) a t ≡ climb next (suc (suc k)) a t
         go zero e = climb-none (suc k) t e ∙ sym (climb-none (suc (suc k)) t e)
-        go (suc u) e = climb-up k t u e ∙ ap (cond (eqb u a) true) (s u (omega (arith, closed t l))) ∙ sym (climb-up (suc k) t u e)
+        go (suc u) e = climb-up k t u e ∙ ap (λ r. eqb u a || r) (s u (omega (arith, closed t l))) ∙ sym (climb-up (suc k) t u e)
 
     pub climb-found : (t : ℕ) → t < n → Above next a t → climb next n a t ≡ true
-    climb-found t l r = let w = enough r in by-n n (λ k u. climb next k a u) grows follows (w .0) t l (w .1)
+    climb-found t l r = let w = enough r in by-n n (λ k u. climb next k a u) climb-grows follows (w .0) t l (w .1)
 
     -- Where every number below n has none above it or one below n, n steps decide.
     pub climb-decides : (t : ℕ) → t < n → (climb next n a t ≡ true) ↔ Above next a t
@@ -102,7 +121,7 @@ module _ (own next : ℕ → ℕ) where
 
   pub nearest-up : (l t u : ℕ) → own t ≡ 0 → next t ≡ suc u → nearest own next (suc l) t ≡ nearest own next l u
   unfolding nearest
-  nearest-up l t u e f = let o : suc u - 1 ≡ u = omega arith in rw (e, f, o, eqb·suc-zero u)
+  nearest-up l t u e f = rw (e, f)
 
   nearest-out : (t : ℕ) → nearest own next 0 t ≡ 0
   unfolding nearest

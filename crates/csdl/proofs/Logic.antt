@@ -1,5 +1,5 @@
 -- Laws of Booleans, of tests, and of the searches, counts and lists of specs/Search.
-use Prim.Native.Nat.{ℕ, zero, suc, _+_, _≤_, _<_, zero-le}
+use Prim.Native.Nat.{ℕ, zero, suc, _+_, _-_, _≤_, _<_, zero-le}
 use mathlib.Core.Path.{_≡_, refl, sym, ap, ap₂, _∙_, subst}
 use mathlib.Core.List.{_∷_}
 use mathlib.Core.Bool.{Bool, true, false, false≢true, cond, _&&_, _||_}
@@ -8,18 +8,42 @@ use native.Mathlib.Nat.{eq-or-lt-of-le}
 use native.Mathlib.Omega.{arith}
 use lib.ListN.{length, getD}
 use lib.Dec.{eqb, ltb, leb}
-use borrow.Author.Tests.{eqb-true, eqb-false, ne-eqb, leb-true, le-leb, ltb-true, lt-ltb}
-use Rattle.csdl.specs.Search.{firstFrom, anyFrom, mark, sumFrom, countFrom, tab}
-use Rattle.csdl.specs.Tables.{Run}
+use borrow.Author.Tests.{eqb-true, eqb-false, ne-eqb, leb-true, le-leb, ltb-true, ltb-false, lt-ltb}
+use Rattle.csdl.specs.Search.{firstFrom, anyFrom, oneIf, sumFrom, countFrom, tab}
+use Rattle.csdl.specs.declared.Run.{Run}
 use Rattle.csdl.specs.Model.{inRun}
 
 -- Booleans.
 pub true-false : {A : Type 0} (b : Bool) → b ≡ true → b ≡ false → A
 true-false b e f = absurd (false≢true (sym f ∙ e))
 
+pub less-one : (n : ℕ) → suc n - 1 ≡ n
+less-one n = omega arith
+
 pub not-so : (b : Bool) → (b ≡ true → ⊥) → b ≡ false
 not-so true h = absurd (h refl)
 not-so false h = refl
+
+-- Two that follow from each other.
+pub bool-iff : (a b : Bool) → (a ≡ true → b ≡ true) → (b ≡ true → a ≡ true) → a ≡ b
+bool-iff true b f g = sym (f refl)
+bool-iff false true f g = g refl
+bool-iff false false f g = refl
+
+-- A number below another, or not; equal, or not.
+pub below-or-not : {A : Type 0} (q m : ℕ) → (q < m → A) → (m ≤ q → A) → A
+below-or-not {A = A} q m f g = go (ltb q m) refl
+  where
+    go : (b : Bool) → ltb q m ≡ b → A
+    go true e = f (ltb-true q m e)
+    go false e = g (ltb-false q m e)
+
+pub equal-or-not : {A : Type 0} (q m : ℕ) → (q ≡ m → A) → ((q ≡ m → ⊥) → A) → A
+equal-or-not {A = A} q m f g = go (eqb q m) refl
+  where
+    go : (b : Bool) → eqb q m ≡ b → A
+    go true e = f (eqb-true q m e)
+    go false e = g (eqb-false q m e)
 
 pub or-cases : (a b : Bool) → (a || b) ≡ true → (a ≡ true) ⊎ (b ≡ true)
 or-cases true b e = inl refl
@@ -141,6 +165,21 @@ none-first test i n h = go (firstFrom test i n) refl
     go zero q = q
     go (suc p) q = let w = first-found test i n p q in true-false (test p) (w .2) (h p (w .0) (w .1))
 
+pub first-same : (test other : ℕ → Bool) (i n : ℕ) → Among i n (λ k. test k ≡ other k) → firstFrom test i n ≡ firstFrom other i n
+unfolding firstFrom
+first-same test other i zero e = refl
+first-same test other i (suc n) e = rw (e i (omega arith) (omega arith), first-same test other (i + 1) n (λ k a b. e k (omega arith) (omega arith)))
+
+-- What is found is no further than the end.
+pub first-le : (test : ℕ → Bool) (i n : ℕ) → firstFrom test i n ≤ i + n
+unfolding firstFrom
+first-le test i zero = omega arith
+first-le test i (suc n) = pick (test i) (first-le test (i + 1) n)
+  where
+    pick : (b : Bool) → firstFrom test (i + 1) n ≤ i + 1 + n → cond b (suc i) (firstFrom test (i + 1) n) ≤ i + suc n
+    pick true h = omega arith
+    pick false h = omega arith
+
 -- The lowest that passes is the one that is found.
 pub first-is : (test : ℕ → Bool) (i n k : ℕ) → i ≤ k → k < i + n → test k ≡ true → ((j : ℕ) → i ≤ j → j < k → test j ≡ false) → firstFrom test i n ≡ suc k
 unfolding firstFrom
@@ -155,6 +194,9 @@ pub sum-same : (f g : ℕ → ℕ) (i n : ℕ) → Among i n (λ k. f k ≡ g k)
 unfolding sumFrom
 sum-same f g i zero e = refl
 sum-same f g i (suc n) e = ap₂ _+_ (e i (omega arith) (omega arith)) (sum-same f g (i + 1) n (λ k a b. e k (omega arith) (omega arith)))
+
+pub count-same : (test other : ℕ → Bool) (i n : ℕ) → Among i n (λ k. test k ≡ other k) → countFrom test i n ≡ countFrom other i n
+count-same test other i n e = sum-same (λ k. oneIf (test k)) (λ k. oneIf (other k)) i n (λ k a b. ap oneIf (e k a b))
 
 -- f, but 0 at y.
 abbrev but : (ℕ → ℕ) → ℕ → ℕ → ℕ
@@ -185,9 +227,9 @@ two-terms-le f x y i n hx lx hy ly d =
 -- Counts: two that pass count 2 or more, so where at most one passes they are the same; where the count is not 0 one passes.
 pub two-found : (test : ℕ → Bool) (i n x y : ℕ) → i ≤ x → x < i + n → i ≤ y → y < i + n → (x ≡ y → ⊥) → test x ≡ true → test y ≡ true → 2 ≤ countFrom test i n
 two-found test i n x y hx lx hy ly d ex ey =
-    let a : mark (test x) ≡ 1 = rw ex in
-    let b : mark (test y) ≡ 1 = rw ey in
-    omega (arith, two-terms-le (λ k. mark (test k)) x y i n hx lx hy ly d)
+    let a : oneIf (test x) ≡ 1 = rw ex in
+    let b : oneIf (test y) ≡ 1 = rw ey in
+    omega (arith, two-terms-le (λ k. oneIf (test k)) x y i n hx lx hy ly d)
 
 pub at-most-one : (test : ℕ → Bool) (n x y : ℕ) → countFrom test 0 n ≤ 1 → x < n → y < n → test x ≡ true → test y ≡ true → x ≡ y
 at-most-one test n x y e lx ly ex ey = go (eqb x y) refl
@@ -204,7 +246,7 @@ some-found test i (suc n) h = go (some-found test (i + 1) n) (test i) refl
     go : (0 < countFrom test (i + 1) n → (k : ℕ) × (i + 1 ≤ k) × (k < i + 1 + n) × (test k ≡ true)) → (b : Bool) → test i ≡ b
         → (k : ℕ) × (i ≤ k) × (k < i + suc n) × (test k ≡ true)
     go rest true q = (i, omega arith, omega arith, q)
-    go rest false q = let z : mark (test i) ≡ 0 = rw q in let w = rest (omega arith) in (w .0, omega arith, omega arith, w .3)
+    go rest false q = let z : oneIf (test i) ≡ 0 = rw q in let w = rest (omega arith) in (w .0, omega arith, omega arith, w .3)
 
 -- A count over 1: two different ones pass.
 pub two-of : (test : ℕ → Bool) (i n : ℕ) → 1 < countFrom test i n → (x y : ℕ) × (i ≤ x) × (x < y) × (y < i + n) × (test x ≡ true) × (test y ≡ true)
@@ -215,8 +257,8 @@ two-of test i (suc n) h = go (two-of test (i + 1) n) (some-found test (i + 1) n)
     go : (1 < countFrom test (i + 1) n → (x y : ℕ) × (i + 1 ≤ x) × (x < y) × (y < i + 1 + n) × (test x ≡ true) × (test y ≡ true))
         → (0 < countFrom test (i + 1) n → (k : ℕ) × (i + 1 ≤ k) × (k < i + 1 + n) × (test k ≡ true))
         → (b : Bool) → test i ≡ b → (x y : ℕ) × (i ≤ x) × (x < y) × (y < i + suc n) × (test x ≡ true) × (test y ≡ true)
-    go rest one true q = let z : mark (test i) ≡ 1 = rw q in let w = one (omega arith) in (i, w .0, omega arith, omega arith, omega arith, q, w .3)
-    go rest one false q = let z : mark (test i) ≡ 0 = rw q in let w = rest (omega arith) in (w .0, w .1, omega arith, w .3, omega arith, w .5, w .6)
+    go rest one true q = let z : oneIf (test i) ≡ 1 = rw q in let w = one (omega arith) in (i, w .0, omega arith, omega arith, omega arith, q, w .3)
+    go rest one false q = let z : oneIf (test i) ≡ 0 = rw q in let w = rest (omega arith) in (w .0, w .1, omega arith, w .3, omega arith, w .5, w .6)
 
 -- A list of f at numbers: its length, its elements, two that agree.
 pub tab-length : {A : Type 0} (f : ℕ → A) (i n : ℕ) → length (tab f i n) ≡ n
@@ -244,6 +286,6 @@ unfolding tab
 tab-same f g i zero e = refl
 tab-same f g i (suc n) e = ap₂ _∷_ (e i (omega arith) (omega arith)) (tab-same f g (i + 1) n (λ k a b. e k (omega arith) (omega arith)))
 
--- A part that makes the whole true is false where the whole is.
+-- A test that makes the whole true is false where the whole is.
 pub off : (whole part : Bool) → (part ≡ true → whole ≡ true) → whole ≡ false → part ≡ false
 off whole part f h = not-so part (λ e. true-false whole (f e) h)

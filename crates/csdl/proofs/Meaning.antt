@@ -5,14 +5,14 @@ use mathlib.Core.List.{List}
 use mathlib.Core.Bool.{Bool, true, false, false≢true, _&&_}
 use mathlib.Core.Logic.{_↔_, _⊎_, inl, inr, ⊎-elim}
 use native.Mathlib.Omega.{arith}
-use lib.Dec.{eqb, eqb·suc-zero}
+use lib.Dec.{eqb}
 use borrow.Author.Tests.{eqb-true, eq-eqb}
 use Rattle.packed.specs.Bytes.{same}
 use Rattle.packed.proofs.Laws.{same-sound, same-refl}
 use Rattle.csdl.specs.Search.{countFrom, orElse, ifFound}
 use Rattle.csdl.specs.Climb.{climb, nearest, topmost}
 use Rattle.csdl.specs.Model.{Model, text}
-use Rattle.csdl.specs.Find.{ancestor, top, declares, own, find}
+use Rattle.csdl.specs.Find.{top, declares, own, find}
 use Rattle.csdl.specs.Form.{rule4}
 use Rattle.csdl.specs.Types.{rule9, type9}
 use Rattle.csdl.specs.Properties.{sameName, property11a, property11b, property11, rule11}
@@ -117,7 +117,7 @@ module _ (next : ℕ → ℕ) where
 
   top-up : (l t u : ℕ) → next t ≡ suc u → topmost next (suc l) t ≡ topmost next l u
   unfolding topmost
-  top-up l t u e = let o : suc u - 1 ≡ u = omega arith in rw (e, o, eqb·suc-zero u)
+  top-up l t u e = rw e
 
   top-out : (t : ℕ) → topmost next 0 t ≡ t
   unfolding topmost

@@ -11,7 +11,7 @@ use Rattle.csdl.specs.Model.{inRun}
 use Rattle.csdl.specs.Instance.{Instance}
 use Rattle.csdl.specs.Conforms.{isNull}
 use Rattle.csdl.specs.Walk.{Origin, itemAt, slotNull, contents}
-use Rattle.csdl.specs.Walk.Item.{null, held}
+use Rattle.csdl.specs.Walk.Item.{null, value}
 use Rattle.csdl.specs.Walk.Origin.{at-slot}
 use Rattle.csdl.specs.Accepted.{IsNull, NullIn}
 use Rattle.csdl.proofs.Logic.{in-run}
@@ -30,7 +30,7 @@ module _ (i : Instance) (s : ℕ) where
     where
       go : (b : Bool) → isNull i k ≡ b → isNull i k ≡ true
       go true q = q
-      go false q = let f : null o ≡ held (i .itemRef k) (i .itemHandle k) = rw q at e in absurd (subst IsNull f tt)
+      go false q = let f : null o ≡ value (i .itemRef k) (i .itemHandle k) = rw q at e in absurd (subst IsNull f tt)
 
   pub null-in-slot : (o : Origin) → List·Memᴰ (null o) (contents i s) → NullIn i s
   unfolding contents NullIn

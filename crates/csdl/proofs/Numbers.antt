@@ -6,10 +6,11 @@ use mathlib.Core.Logic.{_⊎_, inl, inr}
 use native.Mathlib.Omega.{arith}
 use lib.Dec.{eqb, ltb, leb}
 use borrow.Author.Tests.{eqb-true, ltb-true, ltb-false, leb-true, not-false}
-use Rattle.csdl.specs.Tables.{Run}
+use Rattle.csdl.specs.declared.Run.{Run}
 use Rattle.csdl.specs.Model.{Model}
-use Rattle.csdl.specs.Path.{Kind, holders, pathOf}
-use Rattle.csdl.specs.Path.Kind.{partner, key, dependent, principal, binding, target}
+use Rattle.csdl.specs.Path.{holders, pathOf}
+use Rattle.csdl.specs.declared.PathKind.{PathKind}
+use Rattle.csdl.specs.declared.PathKind.the-variants.{Partner, Key, Dependent, Principal, Binding, Target}
 use Rattle.csdl.specs.Form.{beyond4a, run4cd, kind4f, underlying4g, reference4h, path4, optionalPath4, type4, property4, key4, constraint4, child4, binding4, segment4, rule4}
 use Rattle.csdl.specs.Relations.{NumbersFit}
 use Rattle.csdl.specs.Accepted.{Kept}
@@ -31,14 +32,14 @@ run-fits count r e = go (eqb (r .count) 0) refl
     go false q = ltb-false count (r .first + r .count) (rw q at e)
 
 module _ (m : Model) (kept : Kept m rule4) where
-  fits : (w : Kind) (r : ℕ) → r < holders m w → pathOf m w r .first + pathOf m w r .count ≤ m .segments
+  fits : (w : PathKind) (r : ℕ) → r < holders m w → pathOf m w r .first + pathOf m w r .count ≤ m .segments
   unfolding holders pathOf rule4 property4 key4 constraint4 binding4 path4 optionalPath4
-  fits partner p h = run-fits (m .segments) (m .partner p) (off (property4 m p) (run4cd (m .segments) (m .partner p)) (λ q. simp (q, or-true)) (of-property m rule4 kept p h))
-  fits key k h = run-fits (m .segments) (m .keyPath k) (off (key4 m k) (run4cd (m .segments) (m .keyPath k)) (λ q. simp (q, or-true)) (of-key m rule4 kept k h))
-  fits dependent c h = run-fits (m .segments) (m .dependent c) (off (constraint4 m c) (run4cd (m .segments) (m .dependent c)) (λ q. simp (q, or-true)) (of-constraint m rule4 kept c h))
-  fits principal c h = run-fits (m .segments) (m .principal c) (off (constraint4 m c) (run4cd (m .segments) (m .principal c)) (λ q. simp (q, or-true)) (of-constraint m rule4 kept c h))
-  fits binding b h = run-fits (m .segments) (m .bindingPath b) (off (binding4 m b) (run4cd (m .segments) (m .bindingPath b)) (λ q. simp (q, or-true)) (of-binding m rule4 kept b h))
-  fits target b h = run-fits (m .segments) (m .targetPath b) (off (binding4 m b) (run4cd (m .segments) (m .targetPath b)) (λ q. simp (q, or-true)) (of-binding m rule4 kept b h))
+  fits Partner p h = run-fits (m .segments) (m .partner p) (off (property4 m p) (run4cd (m .segments) (m .partner p)) (λ q. simp (q, or-true)) (of-property m rule4 kept p h))
+  fits Key k h = run-fits (m .segments) (m .keyPath k) (off (key4 m k) (run4cd (m .segments) (m .keyPath k)) (λ q. simp (q, or-true)) (of-key m rule4 kept k h))
+  fits Dependent c h = run-fits (m .segments) (m .dependent c) (off (constraint4 m c) (run4cd (m .segments) (m .dependent c)) (λ q. simp (q, or-true)) (of-constraint m rule4 kept c h))
+  fits Principal c h = run-fits (m .segments) (m .principal c) (off (constraint4 m c) (run4cd (m .segments) (m .principal c)) (λ q. simp (q, or-true)) (of-constraint m rule4 kept c h))
+  fits Binding b h = run-fits (m .segments) (m .bindingPath b) (off (binding4 m b) (run4cd (m .segments) (m .bindingPath b)) (λ q. simp (q, or-true)) (of-binding m rule4 kept b h))
+  fits Target b h = run-fits (m .segments) (m .targetPath b) (off (binding4 m b) (run4cd (m .segments) (m .targetPath b)) (λ q. simp (q, or-true)) (of-binding m rule4 kept b h))
 
   known : (x : ℕ) → reference4h m x ≡ false → (x < m .types) ⊎ ((65 ≤ x) × (x ≤ 81))
   unfolding reference4h

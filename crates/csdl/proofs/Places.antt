@@ -5,12 +5,12 @@ use mathlib.Core.Bool.{Bool, false}
 use native.Mathlib.Omega.{arith}
 use borrow.Author.Tests.{lt-ltb, le-ltb}
 use Rattle.csdl.specs.Model.{Model, typesAt, propertiesAt, keysAt, constraintsAt, childrenAt, bindingsAt, segmentsAt, places, recordAt}
-use Rattle.csdl.specs.Instance.{Instance, slotsAt, itemsAt, parts, partAt}
+use Rattle.csdl.specs.Instance.{Instance, slotsAt, itemsAt, instancePlaces, instanceRecordAt}
 use Rattle.csdl.specs.Accepted.{Kept, Fulfilled}
 use Rattle.csdl.specs.declared.Record.{Record}
 use Rattle.csdl.specs.declared.Record.the-variants.{OfSchema, OfType, OfProperty, OfKey, OfConstraint, OfChild, OfBinding, OfSegment}
-use Rattle.csdl.specs.declared.Part.{Part}
-use Rattle.csdl.specs.declared.Part.the-variants.{OfNode, OfSlot, OfItem}
+use Rattle.csdl.specs.declared.InstanceRecord.{InstanceRecord}
+use Rattle.csdl.specs.declared.InstanceRecord.the-variants.{OfNode, OfSlot, OfItem}
 
 from-start : (a k : ℕ) → a + k - a ≡ k
 from-start a k = omega arith
@@ -129,23 +129,23 @@ module _ (m : Model) (rule : Model → Record → Bool) (kept : Kept m rule) (k 
   pub of-segment : k < m .segments → rule m (OfSegment k) ≡ false
   of-segment h = rw (← segment-at m k h) (kept (segmentsAt m + k) (omega arith))
 
--- The part at a place of each table of an instance.
+-- The record at a place of each table of an instance.
 module _ (i : Instance) (k : ℕ) where
-  pub node-at : k < i .nodes → partAt i k ≡ OfNode k
-  unfolding partAt
+  pub node-at : k < i .nodes → instanceRecordAt i k ≡ OfNode k
+  unfolding instanceRecordAt
   node-at h = rw (lt-ltb k (slotsAt i) h)
 
-  pub slot-at : k < i .slots → partAt i (slotsAt i + k) ≡ OfSlot k
-  unfolding partAt
+  pub slot-at : k < i .slots → instanceRecordAt i (slotsAt i + k) ≡ OfSlot k
+  unfolding instanceRecordAt
   slot-at h = let p = slotsAt i + k in rw (le-ltb p (slotsAt i) (omega arith), lt-ltb p (itemsAt i) (omega arith), from-start (slotsAt i) k)
 
-  pub item-at : k < i .items → partAt i (itemsAt i + k) ≡ OfItem k
-  unfolding partAt
+  pub item-at : k < i .items → instanceRecordAt i (itemsAt i + k) ≡ OfItem k
+  unfolding instanceRecordAt
   item-at h =
       let p = itemsAt i + k in
-      rw (le-ltb p (slotsAt i) (omega arith), le-ltb p (itemsAt i) (omega arith), lt-ltb p (parts i) (omega arith), from-start (itemsAt i) k)
+      rw (le-ltb p (slotsAt i) (omega arith), le-ltb p (itemsAt i) (omega arith), lt-ltb p (instancePlaces i) (omega arith), from-start (itemsAt i) k)
 
-module _ (m : Model) (i : Instance) (rule : Model → Instance → Part → Bool) (kept : Fulfilled m i rule) (k : ℕ) where
+module _ (m : Model) (i : Instance) (rule : Model → Instance → InstanceRecord → Bool) (kept : Fulfilled m i rule) (k : ℕ) where
   pub of-node : k < i .nodes → rule m i (OfNode k) ≡ false
   of-node h = rw (← node-at i k h) (kept k (omega arith))
 

@@ -18,60 +18,60 @@ pub data Reach (step : ℕ → ℕ → Bool) (n a : ℕ) : ℕ → Type 0 where
   in-more : {b c : ℕ} → c < n → Reach step n a c → step c b ≡ true → Reach step n a b
 
 module _ (step : ℕ → ℕ → Bool) (n a : ℕ) where
-  -- b is marked after k further rounds.
-  abbrev marked : ℕ → ℕ → Bool
-  marked k b = getD (rounds step n a k) b false
+  -- b is seen after k further rounds.
+  abbrev seen : ℕ → ℕ → Bool
+  seen k b = getD (rounds step n a k) b false
 
   abbrev through : ℕ → ℕ → ℕ → Bool
-  through k b c = marked k c && step c b
+  through k b c = seen k c && step c b
 
-  marked-first : (b : ℕ) → b < n → marked 0 b ≡ step a b
+  seen-first : (b : ℕ) → b < n → seen 0 b ≡ step a b
   unfolding rounds
-  marked-first b l = tab-at (step a) false n b l
+  seen-first b l = tab-at (step a) false n b l
 
-  marked-next : (k b : ℕ) → b < n → marked (suc k) b ≡ (marked k b || anyFrom (λ c. through k b c) 0 n)
+  seen-next : (k b : ℕ) → b < n → seen (suc k) b ≡ (seen k b || anyFrom (λ c. through k b c) 0 n)
   unfolding rounds
-  marked-next k b l = tab-at (λ d. marked k d || anyFrom (λ c. through k d c) 0 n) false n b l
+  seen-next k b l = tab-at (λ d. seen k d || anyFrom (λ c. through k d c) 0 n) false n b l
 
-  marked-past : (k b : ℕ) → n ≤ b → marked k b ≡ false
+  seen-past : (k b : ℕ) → n ≤ b → seen k b ≡ false
   unfolding rounds
-  marked-past zero b h = tab-past (step a) false 0 n b h
-  marked-past (suc k) b h = tab-past (λ d. marked k d || anyFrom (λ c. through k d c) 0 n) false 0 n b h
+  seen-past zero b h = tab-past (step a) false 0 n b h
+  seen-past (suc k) b h = tab-past (λ d. seen k d || anyFrom (λ c. through k d c) 0 n) false 0 n b h
 
-  -- What is marked lies below n.
-  marked-below : (k b : ℕ) → marked k b ≡ true → b < n
-  marked-below k b e = go (ltb b n) refl
+  -- What is seen lies below n.
+  seen-below : (k b : ℕ) → seen k b ≡ true → b < n
+  seen-below k b e = go (ltb b n) refl
     where
       go : (c : Bool) → ltb b n ≡ c → b < n
       go true q = ltb-true b n q
-      go false q = true-false (marked k b) e (marked-past k b (ltb-false b n q))
+      go false q = true-false (seen k b) e (seen-past k b (ltb-false b n q))
 
-  -- What is marked is reached.
-  sound : (k b : ℕ) → marked k b ≡ true → Reach step n a b
-  sound zero b e = in-one (sym (marked-first b (marked-below 0 b e)) ∙ e)
+  -- What is seen is reached.
+  sound : (k b : ℕ) → seen k b ≡ true → Reach step n a b
+  sound zero b e = in-one (sym (seen-first b (seen-below 0 b e)) ∙ e)
   sound (suc k) b e =
       ⊎-elim (λ h. sound k b h)
       (λ h. let w = any-found (λ c. through k b c) 0 n h in
-      let p = and-cases (marked k (w .0)) (step (w .0) b) (w .3) in
+      let p = and-cases (seen k (w .0)) (step (w .0) b) (w .3) in
       in-more (omega arith) (sound k (w .0) (p .0)) (p .1))
-      (or-cases (marked k b) (anyFrom (λ c. through k b c) 0 n) (sym (marked-next k b (marked-below (suc k) b e)) ∙ e))
+      (or-cases (seen k b) (anyFrom (λ c. through k b c) 0 n) (sym (seen-next k b (seen-below (suc k) b e)) ∙ e))
 
-  grows : (k b : ℕ) → marked k b ≡ true → marked (suc k) b ≡ true
-  grows k b e = marked-next k b (marked-below k b e) ∙ or-left (marked k b) (anyFrom (λ c. through k b c) 0 n) e
+  grows : (k b : ℕ) → seen k b ≡ true → seen (suc k) b ≡ true
+  grows k b e = seen-next k b (seen-below k b e) ∙ or-left (seen k b) (anyFrom (λ c. through k b c) 0 n) e
 
-  -- What is reached is marked after enough rounds.
-  enough : {b : ℕ} → b < n → Reach step n a b → (k : ℕ) × (marked k b ≡ true)
-  enough l (in-one {b} e) = (0, marked-first b l ∙ e)
+  -- What is reached is seen after enough rounds.
+  enough : {b : ℕ} → b < n → Reach step n a b → (k : ℕ) × (seen k b ≡ true)
+  enough l (in-one {b} e) = (0, seen-first b l ∙ e)
   enough l (in-more {b} {c} h r e) =
       let w = enough h r in
-      let found = any-of (λ d. through (w .0) b d) 0 n c zero-le (omega arith) (and-both (marked (w .0) c) (step c b) (w .1) e) in
-      (suc (w .0), marked-next (w .0) b l ∙ or-right (marked (w .0) b) (anyFrom (λ d. through (w .0) b d) 0 n) found)
+      let found = any-of (λ d. through (w .0) b d) 0 n c zero-le (omega arith) (and-both (seen (w .0) c) (step c b) (w .1) e) in
+      (suc (w .0), seen-next (w .0) b l ∙ or-right (seen (w .0) b) (anyFrom (λ d. through (w .0) b d) 0 n) found)
 
-  follows : (k : ℕ) → ((t : ℕ) → t < n → marked k t ≡ marked (suc k) t) → (t : ℕ) → t < n → marked (suc k) t ≡ marked (suc (suc k)) t
+  follows : (k : ℕ) → ((t : ℕ) → t < n → seen k t ≡ seen (suc k) t) → (t : ℕ) → t < n → seen (suc k) t ≡ seen (suc (suc k)) t
   follows k s t l =
-      marked-next k t l
+      seen-next k t l
       ∙ ap₂ _||_ (s t l) (any-same (λ c. through k t c) (λ c. through (suc k) t c) 0 n (λ c i h. ap (λ (x : Bool). x && step c t) (s c (omega arith))))
-      ∙ sym (marked-next (suc k) t l)
+      ∙ sym (seen-next (suc k) t l)
 
   pub reaches-sound : (b : ℕ) → reaches step n a b ≡ true → Reach step n a b
   unfolding reaches
@@ -79,7 +79,7 @@ module _ (step : ℕ → ℕ → Bool) (n a : ℕ) where
 
   pub reaches-found : (b : ℕ) → b < n → Reach step n a b → reaches step n a b ≡ true
   unfolding reaches
-  reaches-found b l r = let w = enough l r in by-n n marked grows follows (w .0) b l (w .1)
+  reaches-found b l r = let w = enough l r in by-n n seen grows follows (w .0) b l (w .1)
 
   pub reaches-exact : (b : ℕ) → b < n → (reaches step n a b ≡ true) ↔ Reach step n a b
   reaches-exact b l = (reaches-sound b, reaches-found b l)

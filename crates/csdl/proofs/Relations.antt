@@ -1,5 +1,5 @@
 -- The tests of rules 9, 12 and 26 decide the relations of specs/Relations, where the lower rules are kept.
-use Prim.Native.Nat.{ℕ, suc, _-_, _<_, zero-le}
+use Prim.Native.Nat.{ℕ, suc, _<_, zero-le}
 use mathlib.Core.Path.{_≡_, refl, sym, ap, _∙_}
 use mathlib.Core.Bool.{Bool, true, false, not, _&&_, _||_}
 use mathlib.Core.Logic.{_↔_, ⊎-elim}
@@ -202,7 +202,7 @@ module _ (m : Model) (i : Instance) (kept : Fulfilled m i rule21) where
   item-holds w k l e =
       let (s, ls, es) = item-slot k l in
       let (v, lv, ev) = slot-node s ls in
-      let o : slotOfItem i k - 1 ≡ s = omega (arith, slot-of s k ls l es) in
+      let o = slot-of s k ls l es in
       let c = and-cases (eqb (i .itemHandle k) w && not (isNull i k)) (integral m (itemProperty i k)) e in
       let d = and-cases (eqb (i .itemHandle k) w) (not (isNull i k)) (c .0) in (
         v,
@@ -214,7 +214,7 @@ module _ (m : Model) (i : Instance) (kept : Fulfilled m i rule21) where
           item-there = l;
           of-node = ev;
           of-slot = es;
-          is-integral = rw (← o) (c .1);
+          is-integral = rw o at (c .1);
           not-null = not-true (isNull i k) (d .1);
           number = eqb-true (i .itemHandle k) w (d .0);
         },
@@ -223,8 +223,8 @@ module _ (m : Model) (i : Instance) (kept : Fulfilled m i rule21) where
       )
 
   module _ (v w : ℕ) (h : Holds m i v w) where
-    slot-is : slotOfItem i (h .item) - 1 ≡ h .slot
-    slot-is = omega (arith, slot-of (h .slot) (h .item) (h .slot-there) (h .item-there) (h .of-slot))
+    slot-is : slotOfItem i (h .item) ≡ suc (h .slot)
+    slot-is = slot-of (h .slot) (h .item) (h .slot-there) (h .item-there) (h .of-slot)
 
     pub holds-item : holdsItem m i w (h .item) ≡ true
     unfolding holdsItem
@@ -232,7 +232,7 @@ module _ (m : Model) (i : Instance) (kept : Fulfilled m i rule21) where
         let k = h .item in
         let a = eq-eqb (i .itemHandle k) w (h .number) in
         let b : not (isNull i k) ≡ true = rw (h .not-null) in
-        let c : integral m (i .slotProperty (slotOfItem i k - 1)) ≡ true = rw slot-is (h .is-integral) in
+        let c : integral m (itemProperty i k) ≡ true = rw slot-is (h .is-integral) in
         and-both (eqb (i .itemHandle k) w && not (isNull i k)) (integral m (itemProperty i k)) (and-both (eqb (i .itemHandle k) w) (not (isNull i k)) a b) c
 
     pub item-node : nodeOfItem i (h .item) ≡ suc v

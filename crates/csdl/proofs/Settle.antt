@@ -5,17 +5,17 @@ use mathlib.Core.Logic.{_⊎_, inl, inr, ⊎-elim}
 use mathlib.Core.Bool.{Bool, true, false}
 use native.Mathlib.Nat.{add-suc, add-zero}
 use native.Mathlib.Omega.{arith}
-use Rattle.csdl.specs.Search.{mark, sumFrom, countFrom}
+use Rattle.csdl.specs.Search.{oneIf, sumFrom, countFrom}
 use Rattle.csdl.proofs.Logic.{Among, among-suc, sum-same, true-false}
 
-mark-le : (b : Bool) → mark b ≤ 1
-mark-le true = omega arith
-mark-le false = omega arith
+pub one-if-le : (b : Bool) → oneIf b ≤ 1
+one-if-le true = omega arith
+one-if-le false = omega arith
 
 pub count-le : (test : ℕ → Bool) (i n : ℕ) → countFrom test i n ≤ n
 unfolding sumFrom
 count-le test i zero = zero-le
-count-le test i (suc n) = omega (arith, mark-le (test i), count-le test (i + 1) n)
+count-le test i (suc n) = omega (arith, one-if-le (test i), count-le test (i + 1) n)
 
 -- q has all that p has: either they are the same, or q has more.
 pub count-more : (p q : ℕ → Bool) → ((k : ℕ) → p k ≡ true → q k ≡ true) → (i n : ℕ) → Among i n (λ k. p k ≡ q k) ⊎ (countFrom p i n < countFrom q i n)
@@ -24,13 +24,13 @@ count-more p q sub i zero = inl (λ k a b. absurd (omega arith))
 count-more p q sub i (suc n) = go (p i) (q i) refl refl (count-more p q sub (i + 1) n)
   where
     go : (a b : Bool) → p i ≡ a → q i ≡ b → Among (i + 1) n (λ k. p k ≡ q k) ⊎ (countFrom p (i + 1) n < countFrom q (i + 1) n)
-        → Among i (suc n) (λ k. p k ≡ q k) ⊎ (mark (p i) + countFrom p (i + 1) n < mark (q i) + countFrom q (i + 1) n)
+        → Among i (suc n) (λ k. p k ≡ q k) ⊎ (oneIf (p i) + countFrom p (i + 1) n < oneIf (q i) + countFrom q (i + 1) n)
     go true true e f (inl s) = inl (among-suc (λ k. p k ≡ q k) i n (e ∙ sym f) s)
     go true true e f (inr l) = inr (rw (e, f) (omega arith))
     go false false e f (inl s) = inl (among-suc (λ k. p k ≡ q k) i n (e ∙ sym f) s)
     go false false e f (inr l) = inr (rw (e, f) (omega arith))
     go true false e f m = true-false (q i) (sub i e) f
-    go false true e f (inl s) = inr (rw (e, f) (omega (arith, sum-same (λ k. mark (p k)) (λ k. mark (q k)) (i + 1) n (λ k a b. ap mark (s k a b)))))
+    go false true e f (inl s) = inr (rw (e, f) (omega (arith, sum-same (λ k. oneIf (p k)) (λ k. oneIf (q k)) (i + 1) n (λ k a b. ap oneIf (s k a b)))))
     go false true e f (inr l) = inr (rw (e, f) (omega arith))
 
 -- Each number below n.

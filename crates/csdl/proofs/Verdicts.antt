@@ -11,7 +11,7 @@ use lib.Dec.{ltb, leb}
 use borrow.Author.Tests.{ltb-true, ltb-false, leb-true}
 use Rattle.csdl.specs.Search.{firstFrom}
 use Rattle.csdl.specs.Model.{Model, places}
-use Rattle.csdl.specs.Instance.{Instance, instanceIn, parts}
+use Rattle.csdl.specs.Instance.{Instance, instanceIn, instancePlaces}
 use Rattle.csdl.specs.Image.{modelIn, buffer2}
 use Rattle.csdl.specs.Verdict.{Answer, Stage, verdict, modelStages, modelVerdict, modelAnswer, modelThen}
 use Rattle.csdl.specs.Verdict.Answer.{accepted, refused}
@@ -236,7 +236,7 @@ of-model m k = (
   ),
 )
 
-instance-of : (m : Model) (i : Instance) → AllPassed (parts i) (instanceStages m i) → InstanceKept m i
+instance-of : (m : Model) (i : Instance) → AllPassed (instancePlaces i) (instanceStages m i) → InstanceKept m i
 unfolding AllPassed instanceStages
 instance-of m i a = record {
   kept21 = a .0;
@@ -247,7 +247,7 @@ instance-of m i a = record {
   kept26 = a .1 .1 .1 .1 .1 .0;
 }
 
-of-instance : (m : Model) (i : Instance) → InstanceKept m i → AllPassed (parts i) (instanceStages m i)
+of-instance : (m : Model) (i : Instance) → InstanceKept m i → AllPassed (instancePlaces i) (instanceStages m i)
 unfolding AllPassed instanceStages
 of-instance m i k = (k .kept21, (k .kept22, (k .kept23, (k .kept24, (k .kept25, (k .kept26, tt))))))
 
@@ -266,7 +266,7 @@ later-passes image = (
   λ k. (k .kept1, of-model (modelIn image) (k .model-kept)),
 )
 
-pub conform-passes : (model image : List ℕ) → ModelPasses model → AllPassed (parts (instanceIn image)) (conformStages model image) ↔ InstancePasses model image
+pub conform-passes : (model image : List ℕ) → ModelPasses model → AllPassed (instancePlaces (instanceIn image)) (conformStages model image) ↔ InstancePasses model image
 unfolding AllPassed
 conform-passes model image p = (
   λ a. record { model-passes = p; kept20 = a .0; instance-kept = instance-of (modelIn model) (instanceIn image) (a .1) },
@@ -284,7 +284,7 @@ unfolding modelThen modelVerdict verdict
 then-is image other = refl
 
 instance-is : (model image : List ℕ) (other : Answer)
-    → instanceThen model image other ≡ modelThen model (verdict (parts (instanceIn image)) (conformStages model image) other)
+    → instanceThen model image other ≡ modelThen model (verdict (instancePlaces (instanceIn image)) (conformStages model image) other)
 unfolding instanceThen verdict
 instance-is model image other = refl
 
@@ -344,8 +344,8 @@ model-then-refuses image other rule place =
 pub instance-then-accepts : (model image : List ℕ) (other : Answer) (values : List ℕ)
     → (instanceThen model image other ≡ accepted values) ↔ (InstancePasses model image × (other ≡ accepted values))
 instance-then-accepts model image other values =
-    let after = verdict (parts (instanceIn image)) (conformStages model image) other in
-    let v = verdict-accepts (parts (instanceIn image)) 20 (conformStages model image) (conform-ascends model image) other values in (
+    let after = verdict (instancePlaces (instanceIn image)) (conformStages model image) other in
+    let v = verdict-accepts (instancePlaces (instanceIn image)) 20 (conformStages model image) (conform-ascends model image) other values in (
       λ e. let w = model-then-accepts model after values .0 (sym (instance-is model image other) ∙ e) in
           let x = v .0 (w .1) in
           (conform-passes model image (w .0) .0 (x .0), x .1),
@@ -357,9 +357,9 @@ pub instance-then-refuses : (model image : List ℕ) (other : Answer) (rule plac
     → (instanceThen model image other ≡ refused rule place)
     ↔ (Lowest (places (modelIn model)) (laterStages model) rule place ⊎ (ModelPasses model × AfterModel model image other rule place))
 instance-then-refuses model image other rule place =
-    let after = verdict (parts (instanceIn image)) (conformStages model image) other in
+    let after = verdict (instancePlaces (instanceIn image)) (conformStages model image) other in
     let u = model-then-refuses model after rule place in
-    let v = verdict-refuses (parts (instanceIn image)) 20 (conformStages model image) (conform-ascends model image) other rule place in (
+    let v = verdict-refuses (instancePlaces (instanceIn image)) 20 (conformStages model image) (conform-ascends model image) other rule place in (
       λ e. ⊎-elim (λ low. inl low)
           (λ h. inr (h .0, ⊎-elim (λ low. inl low) (λ k. inr (conform-passes model image (h .0) .0 (k .0), k .1)) (v .0 (h .1))))
           (u .0 (sym (instance-is model image other) ∙ e)),
@@ -379,7 +379,7 @@ instance-accepts model image =
 pub instance-refuses : (model image : List ℕ) (rule place : ℕ)
     → (instanceAnswer model image ≡ refused rule place)
     ↔ (Lowest (places (modelIn model)) (laterStages model) rule place
-    ⊎ (ModelPasses model × Lowest (parts (instanceIn image)) (conformStages model image) rule place))
+    ⊎ (ModelPasses model × Lowest (instancePlaces (instanceIn image)) (conformStages model image) rule place))
 instance-refuses model image rule place =
     let v = instance-then-refuses model image (accepted []) rule place in (
       λ e. ⊎-elim (λ low. inl low) (λ h. inr (h .0, ⊎-elim (λ low. low) (λ k. absurd (not-both (k .1))) (h .1))) (v .0 (sym (answer-is model image) ∙ e)),
@@ -424,7 +424,7 @@ module _ (model image : List ℕ) (place n v : ℕ) (buffer : List ℕ) where
       → (walkAnswer model image place n v buffer ≡ refused rule at)
       ↔ (Lowest (places (modelIn model)) (laterStages model) rule at
       ⊎ (ModelPasses model
-      × (Lowest (parts (instanceIn image)) (conformStages model image) rule at ⊎ (InstancePasses model image × Lowest 0 stages rule at))))
+      × (Lowest (instancePlaces (instanceIn image)) (conformStages model image) rule at ⊎ (InstancePasses model image × Lowest 0 stages rule at))))
   walk-refuses rule at =
       let u = instance-then-refuses model image (verdict 0 stages (accepted counts)) rule at in
       let w = verdict-refuses 0 27 stages walk-ascends (accepted counts) rule at in (

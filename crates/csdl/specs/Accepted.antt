@@ -6,30 +6,30 @@ use mathlib.Core.Bool.{Bool, true, false}
 use mathlib.Core.Logic.{_⊎_}
 use Rattle.csdl.specs.Model.{Model, inRun, places}
 use Rattle.csdl.specs.Image.{modelIn, image1, buffer2}
-use Rattle.csdl.specs.Instance.{Instance, instanceIn, image20, parts}
+use Rattle.csdl.specs.Instance.{Instance, instanceIn, image20, instancePlaces}
 use Rattle.csdl.specs.Form.{rule3, rule4, rule5, rule6, rule7}
 use Rattle.csdl.specs.Types.{rule8, rule9}
 use Rattle.csdl.specs.Properties.{rule10, rule11, rule12}
 use Rattle.csdl.specs.Paths.{rule13, rule14, rule15, rule16, rule17, rule18, rule19}
-use Rattle.csdl.specs.Verdict.{Answer, Stage, placed, modelStages}
+use Rattle.csdl.specs.Verdict.{Answer, Stage, brokenAt, modelStages}
 use Rattle.csdl.specs.Verdict.Answer.{refused}
 use Rattle.csdl.specs.Verdict.Stage.{whole, each}
-use Rattle.csdl.specs.Conforms.{isNull, rule21, rule22, rule23, rule24, rule25, rule26, placedPart, instanceStages}
+use Rattle.csdl.specs.Conforms.{isNull, rule21, rule22, rule23, rule24, rule25, rule26, instanceBrokenAt, instanceStages}
 use Rattle.csdl.specs.Walk.{Item, chosenStart, walk27, walk28, walk29, walkPath}
-use Rattle.csdl.specs.Walk.Item.{null, held}
+use Rattle.csdl.specs.Walk.Item.{null, value}
 use Rattle.csdl.specs.declared.Record.{Record}
-use Rattle.csdl.specs.declared.Part.{Part}
+use Rattle.csdl.specs.declared.InstanceRecord.{InstanceRecord}
 
 -- None of the n places breaks the test.
 abbrev pub Unbroken : ℕ → (ℕ → Bool) → Type 0
 Unbroken n test = (place : ℕ) → place < n → test place ≡ false
 
--- A rule of records is unbroken at every place of the model; a rule of parts at every place of the instance.
+-- A rule of records is unbroken at every place of the model; a rule of an instance's records at every place of the instance.
 abbrev pub Kept : Model → (Model → Record → Bool) → Type 0
-Kept m rule = Unbroken (places m) (placed m rule)
+Kept m rule = Unbroken (places m) (brokenAt m rule)
 
-abbrev pub Fulfilled : Model → Instance → (Model → Instance → Part → Bool) → Type 0
-Fulfilled m i rule = Unbroken (parts i) (placedPart m i rule)
+abbrev pub Fulfilled : Model → Instance → (Model → Instance → InstanceRecord → Bool) → Type 0
+Fulfilled m i rule = Unbroken (instancePlaces i) (instanceBrokenAt m i rule)
 
 -- Rules 3 to 19 are unbroken at every place of the model.
 pub record ModelKept (m : Model) : Type 0 where
@@ -81,7 +81,7 @@ pub record WalkPasses (model image : List ℕ) (place n v : ℕ) (buffer : List 
 -- The item is null. Slot s is null, or one of its items is.
 abbrev pub IsNull : Item → Type 0
 IsNull (null o) = Unit {0}
-IsNull (held r v) = ⊥
+IsNull (value r v) = ⊥
 
 unfoldable pub NullIn : Instance → ℕ → Type 0
 NullIn i s = (i .state s ≡ 0) ⊎ ((k : ℕ) × (inRun (i .slotItems s) k ≡ true) × (isNull i k ≡ true))
@@ -135,4 +135,4 @@ walkStages model image place n v buffer =
 -- A refusal of the instance's own rules, or of what follows them.
 abbrev pub AfterModel : List ℕ → List ℕ → Answer → ℕ → ℕ → Type 0
 AfterModel model image other rule place =
-    Lowest (parts (instanceIn image)) (conformStages model image) rule place ⊎ (InstancePasses model image × (other ≡ refused rule place))
+    Lowest (instancePlaces (instanceIn image)) (conformStages model image) rule place ⊎ (InstancePasses model image × (other ≡ refused rule place))

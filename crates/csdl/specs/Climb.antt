@@ -1,31 +1,25 @@
 -- Climbing from number to number, and reaching by steps. `next t` is 0 for none, else the number above t plus 1.
-use Prim.Native.Nat.{ℕ, zero, suc, _+_, _-_}
-use mathlib.Core.List.{List, [], _∷_}
-use mathlib.Core.Bool.{Bool, true, false, cond, _&&_, _||_}
+use Prim.Native.Nat.{ℕ, zero, suc}
+use mathlib.Core.List.{List}
+use mathlib.Core.Bool.{Bool, false, _&&_, _||_}
 use lib.Dec.{eqb}
 use lib.ListN.{getD}
-use Rattle.csdl.specs.Search.{anyFrom, tab, orElse}
+use Rattle.csdl.specs.Search.{anyFrom, tab, orElse, ifFound}
 
 -- a stands above t, found within so many steps.
 unfoldable pub climb : (ℕ → ℕ) → ℕ → ℕ → ℕ → Bool
 climb next zero a t = false
-climb next (suc left) a t =
-    let rest = climb next left a (next t - 1) in
-    let up = cond (eqb (next t - 1) a) true rest in
-    cond (eqb (next t) 0) false up
+climb next (suc left) a t = ifFound false (λ b. eqb b a || climb next left a b) (next t)
 
 -- The answer of `own` at t, or at the nearest number above t that has one, within so many numbers; 0 for none.
 unfoldable pub nearest : (ℕ → ℕ) → (ℕ → ℕ) → ℕ → ℕ → ℕ
 nearest own next zero t = 0
-nearest own next (suc left) t =
-    let rest = nearest own next left (next t - 1) in
-    let up = cond (eqb (next t) 0) 0 rest in
-    orElse (own t) up
+nearest own next (suc left) t = orElse (own t) (ifFound 0 (λ b. nearest own next left b) (next t))
 
 -- The topmost number above t, or t itself, within so many steps.
 unfoldable pub topmost : (ℕ → ℕ) → ℕ → ℕ → ℕ
 topmost next zero t = t
-topmost next (suc left) t = let rest = topmost next left (next t - 1) in cond (eqb (next t) 0) t rest
+topmost next (suc left) t = ifFound t (λ b. topmost next left b) (next t)
 
 -- Which of the numbers below n are reached from a in one step, and in so many further rounds.
 unfoldable pub rounds : (ℕ → ℕ → Bool) → ℕ → ℕ → ℕ → List Bool

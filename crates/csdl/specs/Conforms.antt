@@ -1,20 +1,20 @@
 -- Rules 21 to 26 (house): an instance conforms to its model.
-use Prim.Native.Nat.{ℕ, zero, suc, _+_, _-_}
+use Prim.Native.Nat.{ℕ, suc}
 use mathlib.Core.List.{List, [], _∷_}
-use mathlib.Core.Bool.{Bool, true, false, cond, not, _&&_, _||_}
-use lib.Dec.{eqb, ltb, leb}
-use Rattle.csdl.specs.Search.{firstFrom, anyFrom, countFrom, mark}
+use mathlib.Core.Bool.{Bool, false, cond, not, _&&_, _||_}
+use lib.Dec.{eqb, ltb}
+use Rattle.csdl.specs.Search.{firstFrom, anyFrom, countFrom, oneIf, ifFound}
 use Rattle.csdl.specs.Climb.{reaches}
 use Rattle.csdl.specs.Model.{Model, inRun}
 use Rattle.csdl.specs.Find.{structured, ancestorOrSelf, isNameOf, integral}
 use Rattle.csdl.specs.Form.{run4cd}
-use Rattle.csdl.specs.Instance.{Instance, instanceIn, image20, parts, partAt, onNode, onSlot, onItem}
+use Rattle.csdl.specs.Instance.{Instance, instanceIn, image20, instancePlaces, instanceRecordAt, onNode, onSlot, onItem}
 use Rattle.csdl.specs.Verdict.{Answer, Stage, verdict, modelThen}
 use Rattle.csdl.specs.Verdict.Answer.{accepted}
 use Rattle.csdl.specs.Verdict.Stage.{whole, each}
 use Rattle.csdl.specs.Image.{modelIn}
-use Rattle.csdl.specs.declared.Part.{Part}
-use Rattle.csdl.specs.declared.Part.the-variants.{OfNode, OfSlot, OfItem, Outside}
+use Rattle.csdl.specs.declared.InstanceRecord.{InstanceRecord}
+use Rattle.csdl.specs.declared.InstanceRecord.the-variants.{OfNode, OfSlot, OfItem, Outside}
 
 -- Rule 21.
 -- 21a, of a node: a spare bit, a type number not below the model's count, an empty run with first not 0, a run past the slots.
@@ -44,7 +44,7 @@ slot21b m i s =
 unfoldable pub item21c : Instance → ℕ → Bool
 item21c i k = not (eqb (slotsWith i k) 1)
 
-unfoldable pub rule21 : Model → Instance → Part → Bool
+unfoldable pub rule21 : Model → Instance → InstanceRecord → Bool
 rule21 m i (OfNode v) = node21a m i v
 rule21 m i (OfSlot s) = slot21b m i s
 rule21 m i (OfItem k) = item21c i k
@@ -54,7 +54,7 @@ rule21 m i Outside = false
 unfoldable pub node22 : Model → Instance → ℕ → Bool
 node22 m i v = not (structured m (i .nodeType v)) || m .isAbstract (i .nodeType v)
 
-abbrev pub rule22 : Model → Instance → Part → Bool
+abbrev pub rule22 : Model → Instance → InstanceRecord → Bool
 rule22 m i r = onNode (λ v. node22 m i v) r
 
 -- Rule 23, of a node: its slots are not its type's names, nearest declaration, once each. For each property: the number of the node's slots
@@ -63,9 +63,9 @@ unfoldable pub slotsOf : Instance → ℕ → ℕ → ℕ
 slotsOf i v p = countFrom (λ s. eqb (i .slotProperty s) p) (i .nodeSlots v .first) (i .nodeSlots v .count)
 
 unfoldable pub node23 : Model → Instance → ℕ → Bool
-node23 m i v = anyFrom (λ p. not (eqb (slotsOf i v p) (mark (isNameOf m (i .nodeType v) p)))) 0 (m .properties)
+node23 m i v = anyFrom (λ p. not (eqb (slotsOf i v p) (oneIf (isNameOf m (i .nodeType v) p)))) 0 (m .properties)
 
-abbrev pub rule23 : Model → Instance → Part → Bool
+abbrev pub rule23 : Model → Instance → InstanceRecord → Bool
 rule23 m i r = onNode (λ v. node23 m i v) r
 
 -- Rule 24, of a slot.
@@ -82,7 +82,7 @@ slot24c m i s = eqb (i .state s) 2 && not (m .collection (i .slotProperty s))
 unfoldable pub slot24 : Model → Instance → ℕ → Bool
 slot24 m i s = slot24a m i s || slot24b m i s || slot24c m i s
 
-abbrev pub rule24 : Model → Instance → Part → Bool
+abbrev pub rule24 : Model → Instance → InstanceRecord → Bool
 rule24 m i r = onSlot (λ s. slot24 m i s) r
 
 -- The slot whose run has the item; the node whose run has the slot: 0 for none, else its number plus 1.
@@ -92,9 +92,13 @@ slotOfItem i k = firstFrom (λ s. inRun (i .slotItems s) k) 0 (i .slots)
 unfoldable pub nodeOfSlot : Instance → ℕ → ℕ
 nodeOfSlot i s = firstFrom (λ v. inRun (i .nodeSlots v) s) 0 (i .nodes)
 
+-- A number that no property has: rule 1 allows 512 properties, and the first is 0.
+abbrev pub noPropertyNumber : ℕ
+noPropertyNumber = 512
+
 -- The property of the slot that has the item.
 abbrev pub itemProperty : Instance → ℕ → ℕ
-itemProperty i k = i .slotProperty (slotOfItem i k - 1)
+itemProperty i k = ifFound noPropertyNumber (λ s. i .slotProperty s) (slotOfItem i k)
 
 -- A null item is 255 with handle 0.
 unfoldable pub isNull : Instance → ℕ → Bool
@@ -114,7 +118,7 @@ item25of m i p k =
 unfoldable pub item25 : Model → Instance → ℕ → Bool
 item25 m i k = item25of m i (itemProperty i k) k
 
-abbrev pub rule25 : Model → Instance → Part → Bool
+abbrev pub rule25 : Model → Instance → InstanceRecord → Bool
 rule25 m i r = onItem (λ k. item25 m i k) r
 
 -- Rule 26, of a node. Item k is integral and holds node w.
@@ -123,7 +127,7 @@ holdsItem m i w k = eqb (i .itemHandle k) w && not (isNull i k) && integral m (i
 
 -- The node in whose slot item k stands: 0 for none, else its number plus 1.
 abbrev pub nodeOfItem : Instance → ℕ → ℕ
-nodeOfItem i k = nodeOfSlot i (slotOfItem i k - 1)
+nodeOfItem i k = ifFound 0 (λ s. nodeOfSlot i s) (slotOfItem i k)
 
 -- Node v holds node w through an integral item.
 unfoldable pub holdsNode : Model → Instance → ℕ → ℕ → Bool
@@ -140,23 +144,23 @@ node26b m i w = reaches (λ a b. holdsNode m i a b) (i .nodes) w w
 unfoldable pub node26 : Model → Instance → ℕ → Bool
 node26 m i w = node26a m i w || node26b m i w
 
-abbrev pub rule26 : Model → Instance → Part → Bool
+abbrev pub rule26 : Model → Instance → InstanceRecord → Bool
 rule26 m i r = onNode (λ w. node26 m i w) r
 
 -- Rules 21 to 26 of an instance.
-abbrev pub placedPart : Model → Instance → (Model → Instance → Part → Bool) → ℕ → Bool
-placedPart m i rule place = rule m i (partAt i place)
+abbrev pub instanceBrokenAt : Model → Instance → (Model → Instance → InstanceRecord → Bool) → ℕ → Bool
+instanceBrokenAt m i rule place = rule m i (instanceRecordAt i place)
 
 unfoldable pub instanceStages : Model → Instance → List Stage
 instanceStages m i =
-    each 21 (placedPart m i rule21) ∷ each 22 (placedPart m i rule22) ∷ each 23 (placedPart m i rule23) ∷ each 24 (placedPart m i rule24) ∷ each 25 (placedPart m i rule25)
-    ∷ each 26 (placedPart m i rule26) ∷ []
+    each 21 (instanceBrokenAt m i rule21) ∷ each 22 (instanceBrokenAt m i rule22) ∷ each 23 (instanceBrokenAt m i rule23) ∷ each 24 (instanceBrokenAt m i rule24) ∷ each 25 (instanceBrokenAt m i rule25)
+    ∷ each 26 (instanceBrokenAt m i rule26) ∷ []
 
 -- Rules 1 and 3 to 19 of the model, then 20 to 26 of the instance, then what follows.
 unfoldable pub instanceThen : List ℕ → List ℕ → Answer → Answer
 instanceThen model image otherwise =
     let i = instanceIn image in
-    modelThen model (verdict 0 (whole 20 (image20 image) ∷ []) (verdict (parts i) (instanceStages (modelIn model) i) otherwise))
+    modelThen model (verdict 0 (whole 20 (image20 image) ∷ []) (verdict (instancePlaces i) (instanceStages (modelIn model) i) otherwise))
 
 -- The check of an instance.
 unfoldable pub instanceAnswer : List ℕ → List ℕ → Answer

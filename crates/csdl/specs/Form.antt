@@ -6,7 +6,8 @@ use lib.ListN.{length, getD}
 use lib.Dec.{eqb, ltb, leb}
 use Rattle.packed.specs.Bytes.{same}
 use Rattle.csdl.specs.Search.{anyFrom, all}
-use Rattle.csdl.specs.Tables.{Name, Run}
+use Rattle.csdl.specs.Tables.{Name}
+use Rattle.csdl.specs.declared.Run.{Run}
 use Rattle.csdl.specs.Model.{Model, aliasText, childText, namespaceText, typeText, text, named, present, on}
 use Rattle.csdl.specs.Model.Table.{schema-table, type-table, child-table}
 use Rattle.csdl.specs.declared.Record.{Record}
@@ -24,12 +25,12 @@ rule3 m (OfBinding b) = not (eqb (m .bindingSpare b) 0)
 rule3 m (OfSegment g) = not (eqb (m .segmentSpare g) 0)
 rule3 m Nowhere = false
 
--- Rule 4 (house), a clause for each kind of fault; below, for each record, the fields that it is asked of.
+-- Rule 4 (house), a clause for each fault; below, for each record, the fields that it is asked of.
 -- 4a: a number is not below its count.
 abbrev pub beyond4a : ℕ → ℕ → Bool
 beyond4a number count = not (ltb number count)
 
--- 4b, 4d: a name runs past the name bytes, or is absent with a start that is not 0.
+-- 4b, 4d: a name goes past the name bytes, or is absent with a start that is not 0.
 abbrev pub name4bd : Model → Name → Bool
 name4bd m n = cond (named n) (ltb (length (m .names)) (n .start + n .size)) (not (eqb (n .start) 0))
 

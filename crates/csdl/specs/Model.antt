@@ -7,7 +7,8 @@ use lib.ListN.{length}
 use lib.Dec.{eqb, ltb, leb}
 use Rattle.packed.specs.Bytes.{part}
 use Rattle.csdl.specs.Tables as tables
-use Rattle.csdl.specs.Tables.{Name, Run}
+use Rattle.csdl.specs.Tables.{Name}
+use Rattle.csdl.specs.declared.Run.{Run}
 use Rattle.csdl.specs.declared.Record.{Record}
 use Rattle.csdl.specs.declared.Record.the-variants.{OfSchema, OfType, OfProperty, OfKey, OfConstraint, OfChild, OfBinding, OfSegment, Nowhere}
 

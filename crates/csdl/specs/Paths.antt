@@ -4,32 +4,32 @@ use mathlib.Core.List.{List}
 use mathlib.Core.Bool.{Bool, cond, not, _&&_, _||_}
 use lib.Dec.{eqb, ltb, leb}
 use Rattle.packed.specs.Bytes.{same}
-use Rattle.csdl.specs.Search.{anyFrom, tab, some, isEmpty, butLast, lastOr, lastFails}
-use Rattle.csdl.specs.Model.{Model, keyAliasText, segmentText, named, present, inRun, on}
+use Rattle.csdl.specs.Search.{anyFrom, tab, some, isEmpty, butLast, lastFails}
+use Rattle.csdl.specs.Model.{Model, keyAliasText, named, present, inRun, on}
 use Rattle.csdl.specs.Model.Table.{property-table, key-table, constraint-table, child-table, binding-table, segment-table}
 use Rattle.csdl.specs.Find.{entity, complex, enumeration, definition, ancestor, ancestorOrSelf, top, find, complexStep, containStep, hasKey}
 use Rattle.csdl.specs.Properties.{alike}
-use Rattle.csdl.specs.Path.{Step, Kind, segmentAt, segmentsOf, resolves, pathOf, startOf, pathSteps, pathEnd, kinds, holders, pathsHolding, isType, isProperty, isOther, propertyOf, sameSegments}
+use Rattle.csdl.specs.Path.{Step, segmentAt, segmentsOf, resolves, pathOf, startOf, pathSteps, pathEnd, kinds, holders, pathsWith, noProperty, isProperty, isOther, lastStep, firstName, sameSegments}
+use Rattle.csdl.specs.declared.PathKind.{PathKind}
 use Rattle.csdl.specs.Path as path
-use Rattle.csdl.specs.Path.Step.{property, type}
-use Rattle.csdl.specs.Path.Kind.{partner, key, dependent, principal, binding, target}
+use Rattle.csdl.specs.declared.PathKind.the-variants.{Partner, Key, Dependent, Principal, Binding, Target}
 use Rattle.csdl.specs.declared.Record.{Record}
 
 -- Rule 13 (house), of a segment. 13a: it is in no path, or in two or more.
 unfoldable pub segment13 : Model → ℕ → Bool
-segment13 m g = not (eqb (pathsHolding m g) 1)
+segment13 m g = not (eqb (pathsWith m g) 1)
 
 abbrev pub rule13 : Model → Record → Bool
 rule13 m r = on segment-table (λ g. segment13 m g) r
 
 -- Rule 14, of a segment. It does not resolve, as one of the path of record r: the path does not resolve as far as segment g.
-unfoldable pub unresolvedIn : Model → Kind → ℕ → ℕ → Bool
+unfoldable pub unresolvedIn : Model → PathKind → ℕ → ℕ → Bool
 unresolvedIn m w g r =
     let run = pathOf m w r in
     inRun run g && not (resolves m (startOf m w r) (tab (λ k. segmentAt m k) (run .first) (g + 1 - run .first)))
 
 -- As one of some path of the kind; as one of some path.
-unfoldable pub unresolvedOf : Model → Kind → ℕ → Bool
+unfoldable pub unresolvedOf : Model → PathKind → ℕ → Bool
 unresolvedOf m w g = anyFrom (λ r. unresolvedIn m w g r) 0 (holders m w)
 
 unfoldable pub unresolved : Model → ℕ → Bool
@@ -51,16 +51,9 @@ segment14 m g = segment14a m g || segment14b m g
 abbrev pub rule14 : Model → Record → Bool
 rule14 m r = on segment-table (λ g. segment14 m g) r
 
--- A path has a cast.
+-- A path has a cast: a step that is no property. (Rule 14 leaves no step that is nothing.)
 abbrev pub hasCast : List Step → Bool
-hasCast l = some (λ s. isType s) l
-
--- The last step of a path; a cast to type 0 where there is none.
-abbrev pub lastStep : List Step → Step
-lastStep l = lastOr (type 0) l
-
-abbrev pub lastProperty : List Step → ℕ
-lastProperty l = propertyOf (lastStep l)
+hasCast l = some (λ s. noProperty s) l
 
 -- Rule 15 (s. 6.5), of a key.
 -- The primitive codes of a key's type: all but Binary (1), Double (7), Single (14) and Stream (15).
@@ -78,9 +71,9 @@ keyStep m p = not (m .collection p) && not (m .nullable p) && complexStep m p
 unfoldable pub keyEnd : Model → ℕ → Bool
 keyEnd m p = not (m .collection p) && not (m .nullable p) && keyType m (m .typeRef p)
 
--- The name of a key: its alias, else the name of its one segment.
+-- The name of a key: its alias, else the name of its one segment; no bytes where that is a cast, which 15c refuses.
 unfoldable pub keyName : Model → ℕ → List ℕ
-keyName m k = cond (named (m .keyAlias k)) (keyAliasText m k) (segmentText m (m .keyPath k .first))
+keyName m k = cond (named (m .keyAlias k)) (keyAliasText m k) (firstName (segmentsOf m (m .keyPath k)))
 
 -- 15a: the owner is no entity type.
 abbrev pub key15a : Model → ℕ → Bool
@@ -92,15 +85,15 @@ key15b m k = anyFrom (λ j. ancestor m (m .keyOwner j) (m .keyOwner k)) 0 (m .ke
 
 -- 15c: the path has a cast.
 unfoldable pub key15c : Model → ℕ → Bool
-key15c m k = hasCast (pathSteps m key k)
+key15c m k = hasCast (pathSteps m Key k)
 
 -- 15d: a step but the last is not single, not nullable, complex.
 abbrev pub key15d : Model → ℕ → Bool
-key15d m k = some (λ s. isOther (λ p. keyStep m p) s) (butLast (pathSteps m key k))
+key15d m k = some (λ s. isOther (λ p. keyStep m p) s) (butLast (pathSteps m Key k))
 
 -- 15e: the last is not single, not nullable, of a type that a key may have.
 abbrev pub key15e : Model → ℕ → Bool
-key15e m k = isOther (λ p. keyEnd m p) (lastStep (pathSteps m key k))
+key15e m k = isOther (λ p. keyEnd m p) (lastStep (pathSteps m Key k))
 
 -- 15f: an alias is not present exactly when the path has more than one segment.
 abbrev pub key15f : Model → ℕ → Bool
@@ -120,12 +113,9 @@ key15 m k = key15a m k || key15b m k || key15c m k || (key15d m k || key15e m k)
 abbrev pub rule15 : Model → Record → Bool
 rule15 m r = on key-table (λ k. key15 m k) r
 
--- Rule 16 (s. 8.5, but for 16d), of a constraint. The last properties of its two paths.
-abbrev pub dependentEnd : Model → ℕ → ℕ
-dependentEnd m c = lastProperty (pathSteps m dependent c)
-
-abbrev pub principalEnd : Model → ℕ → ℕ
-principalEnd m c = lastProperty (pathSteps m principal c)
+-- Rule 16 (s. 8.5, but for 16d), of a constraint. The last steps of its two paths are properties that pass the test.
+abbrev pub bothEnd : Model → ℕ → (ℕ → ℕ → Bool) → Bool
+bothEnd m c test = isProperty (λ d. isProperty (λ r. test d r) (lastStep (pathSteps m Principal c))) (lastStep (pathSteps m Dependent c))
 
 -- What a step of a constraint's path before the last may be.
 unfoldable pub constraintStep : Model → ℕ → Bool
@@ -137,21 +127,21 @@ constraint16a m c = not (m .navigation (m .constrained c)) || m .collection (m .
 
 -- 16b: either path has a cast.
 unfoldable pub constraint16b : Model → ℕ → Bool
-constraint16b m c = hasCast (pathSteps m dependent c) || hasCast (pathSteps m principal c)
+constraint16b m c = hasCast (pathSteps m Dependent c) || hasCast (pathSteps m Principal c)
 
 -- 16c: in either path, a step but the last is not single complex.
 unfoldable pub brokenInner : Model → List Step → Bool
 brokenInner m l = some (λ s. isOther (λ p. constraintStep m p) s) (butLast l)
 
 abbrev pub constraint16c : Model → ℕ → Bool
-constraint16c m c = brokenInner m (pathSteps m dependent c) || brokenInner m (pathSteps m principal c)
+constraint16c m c = brokenInner m (pathSteps m Dependent c) || brokenInner m (pathSteps m Principal c)
 
--- 16d (house): the last of either path is not structural.
-abbrev pub endNavigates : Model → List Step → Bool
-endNavigates m l = isProperty (λ p. m .navigation p) (lastStep l)
+-- 16d (house): the last of either path is no structural property.
+abbrev pub brokenEnd : Model → List Step → Bool
+brokenEnd m l = not (isProperty (λ p. not (m .navigation p)) (lastStep l))
 
 abbrev pub constraint16d : Model → ℕ → Bool
-constraint16d m c = endNavigates m (pathSteps m dependent c) || endNavigates m (pathSteps m principal c)
+constraint16d m c = brokenEnd m (pathSteps m Dependent c) || brokenEnd m (pathSteps m Principal c)
 
 -- 16e: types or collection bits differ, and not both are single complex.
 unfoldable pub sameShape : Model → ℕ → ℕ → Bool
@@ -160,12 +150,18 @@ sameShape m d r = eqb (m .typeRef d) (m .typeRef r) && alike (m .collection d) (
 unfoldable pub bothComplex : Model → ℕ → ℕ → Bool
 bothComplex m d r = not (m .collection d) && not (m .collection r) && complex m (m .typeRef d) && complex m (m .typeRef r)
 
+unfoldable pub otherShape : Model → ℕ → ℕ → Bool
+otherShape m d r = not (sameShape m d r) && not (bothComplex m d r)
+
 abbrev pub constraint16e : Model → ℕ → Bool
-constraint16e m c = not (sameShape m (dependentEnd m c) (principalEnd m c)) && not (bothComplex m (dependentEnd m c) (principalEnd m c))
+constraint16e m c = bothEnd m c (λ d r. otherShape m d r)
 
 -- 16f: the dependent is not nullable exactly when the navigation property or the principal is.
+unfoldable pub otherNullable : Model → ℕ → ℕ → ℕ → Bool
+otherNullable m p d r = not (alike (m .nullable d) (m .nullable p || m .nullable r))
+
 abbrev pub constraint16f : Model → ℕ → Bool
-constraint16f m c = not (alike (m .nullable (dependentEnd m c)) (m .nullable (m .constrained c) || m .nullable (principalEnd m c)))
+constraint16f m c = bothEnd m c (λ d r. otherNullable m (m .constrained c) d r)
 
 unfoldable pub constraint16 : Model → ℕ → Bool
 constraint16 m c = constraint16a m c || constraint16b m c || constraint16c m c || constraint16d m c || constraint16e m c || constraint16f m c
@@ -173,41 +169,37 @@ constraint16 m c = constraint16a m c || constraint16b m c || constraint16c m c |
 abbrev pub rule16 : Model → Record → Bool
 rule16 m r = on constraint-table (λ c. constraint16 m c) r
 
--- Rule 17, of a property that has a partner path. The property that the path leads to.
-abbrev pub partnerOf : Model → ℕ → ℕ
-partnerOf m p = lastProperty (pathSteps m partner p)
-
--- The last step is property p.
-abbrev pub leadsTo : ℕ → Step → Bool
-leadsTo p s = isProperty (λ q. eqb q p) s
+-- Rule 17, of a property that has a partner path. The path leads to a property, its partner, that passes the test.
+abbrev pub partnerIs : Model → ℕ → (ℕ → Bool) → Bool
+partnerIs m p test = isProperty test (lastStep (pathSteps m Partner p))
 
 -- 17a (s. 8.3): the last segment is a cast, or no navigation property.
 abbrev pub property17a : Model → ℕ → Bool
-property17a m p = not (isProperty (λ q. m .navigation q) (lastStep (pathSteps m partner p)))
+property17a m p = not (partnerIs m p (λ q. m .navigation q))
 
 -- 17b (s. 8.3): an earlier segment is a navigation property.
 abbrev pub property17b : Model → ℕ → Bool
-property17b m p = some (λ s. isProperty (λ q. m .navigation q) s) (butLast (pathSteps m partner p))
+property17b m p = some (λ s. isProperty (λ q. m .navigation q) s) (butLast (pathSteps m Partner p))
 
 -- 17c (s. 8.3): the owner is not at the partner's type.
 abbrev pub property17c : Model → ℕ → Bool
-property17c m p = not (ancestorOrSelf m (m .typeRef (partnerOf m p)) (m .owner p))
+property17c m p = partnerIs m p (λ q. not (ancestorOrSelf m (m .typeRef q) (m .owner p)))
 
 -- 17d (s. 8.3): the partner has a partner other than this property.
 abbrev pub property17d : Model → ℕ → Bool
-property17d m p = present (m .partner (partnerOf m p)) && not (leadsTo p (lastStep (pathSteps m partner (partnerOf m p))))
+property17d m p = partnerIs m p (λ q. present (m .partner q) && not (partnerIs m q (λ x. eqb x p)))
 
 -- 17e (s. 8.4): this property contains, and the partner is not nullable within one hierarchy, or nullable across two.
 abbrev pub property17e : Model → ℕ → Bool
 property17e m p =
-    m .contains p && cond (eqb (top m (m .owner p)) (top m (m .typeRef p))) (not (m .nullable (partnerOf m p))) (m .nullable (partnerOf m p))
+    partnerIs m p (λ q. m .contains p && cond (eqb (top m (m .owner p)) (top m (m .typeRef p))) (not (m .nullable q)) (m .nullable q))
 
 -- 17f (s. 8.4): the partner contains, as does that of another property of the owner or an ancestor.
 unfoldable pub otherContained : Model → ℕ → ℕ → Bool
-otherContained m p q = not (eqb q p) && present (m .partner q) && ancestorOrSelf m (m .owner q) (m .owner p) && isProperty (λ x. m .contains x) (lastStep (pathSteps m partner q))
+otherContained m p q = not (eqb q p) && present (m .partner q) && ancestorOrSelf m (m .owner q) (m .owner p) && partnerIs m q (λ x. m .contains x)
 
 abbrev pub property17f : Model → ℕ → Bool
-property17f m p = m .contains (partnerOf m p) && anyFrom (λ q. otherContained m p q) 0 (m .properties)
+property17f m p = partnerIs m p (λ q. m .contains q && anyFrom (λ x. otherContained m p x) 0 (m .properties))
 
 unfoldable pub property17 : Model → ℕ → Bool
 property17 m p =
@@ -247,7 +239,7 @@ nonContainment m p = m .navigation p && not (m .contains p)
 
 -- The properties of the names of a binding's path, in order; casts are left out.
 abbrev pub bindingNames : Model → ℕ → List ℕ
-bindingNames m b = path.properties (pathSteps m binding b)
+bindingNames m b = path.properties (pathSteps m Binding b)
 
 -- 19a (s. 13.4.1): the path has no name.
 abbrev pub binding19a : Model → ℕ → Bool
@@ -272,7 +264,7 @@ binding19e m b = present (m .targetPath b) && not (m .singleton (m .target b))
 
 -- 19f (document 01; s. 15.4 allows it): the target path has a cast.
 abbrev pub binding19f : Model → ℕ → Bool
-binding19f m b = hasCast (pathSteps m target b)
+binding19f m b = hasCast (pathSteps m Target b)
 
 -- 19g (s. 13.4.2): a step of the target path but the last is not single and complex or containment; the last is no containment.
 unfoldable pub targetStep : Model → ℕ → Bool
@@ -280,11 +272,11 @@ targetStep m p = not (m .collection p) && (complexStep m p || containStep m p)
 
 abbrev pub binding19g : Model → ℕ → Bool
 binding19g m b =
-    some (λ s. isOther (λ p. targetStep m p) s) (butLast (pathSteps m target b)) || isOther (λ p. containStep m p) (lastStep (pathSteps m target b))
+    some (λ s. isOther (λ p. targetStep m p) s) (butLast (pathSteps m Target b)) || isOther (λ p. containStep m p) (lastStep (pathSteps m Target b))
 
 -- 19h (house): path and target end at types neither of which is at the other.
 abbrev pub binding19h : Model → ℕ → Bool
-binding19h m b = not (ancestorOrSelf m (pathEnd m binding b) (pathEnd m target b)) && not (ancestorOrSelf m (pathEnd m target b) (pathEnd m binding b))
+binding19h m b = not (ancestorOrSelf m (pathEnd m Binding b) (pathEnd m Target b)) && not (ancestorOrSelf m (pathEnd m Target b) (pathEnd m Binding b))
 
 unfoldable pub binding19 : Model → ℕ → Bool
 binding19 m b = binding19a m b || binding19b m b || binding19c m b || binding19d m b || binding19e m b || binding19f m b || binding19g m b || binding19h m b

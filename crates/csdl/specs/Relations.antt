@@ -6,7 +6,8 @@ use mathlib.Core.Bool.{true, false}
 use mathlib.Core.Logic.{_⊎_}
 use Rattle.csdl.specs.Model.{Model, propertyText, inRun}
 use Rattle.csdl.specs.Find.{integral}
-use Rattle.csdl.specs.Path.{Kind, holders, pathOf}
+use Rattle.csdl.specs.Path.{holders, pathOf}
+use Rattle.csdl.specs.declared.PathKind.{PathKind}
 use Rattle.csdl.specs.Instance.{Instance}
 use Rattle.csdl.specs.Conforms.{isNull}
 
@@ -27,7 +28,7 @@ pub record NumbersFit (m : Model) : Type 0 where
   pub child-type-there : (h : ℕ) → h < m .children → m .childType h < m .types
   pub binding-child-there : (b : ℕ) → b < m .bindings → m .bindingChild b < m .children
   pub target-there : (b : ℕ) → b < m .bindings → m .target b < m .children
-  pub path-there : (w : Kind) (r : ℕ) → r < holders m w → pathOf m w r .first + pathOf m w r .count ≤ m .segments
+  pub path-there : (w : PathKind) (r : ℕ) → r < holders m w → pathOf m w r .first + pathOf m w r .count ≤ m .segments
   pub cast-there : (g : ℕ) → g < m .segments → m .isCast g ≡ true → m .castType g < m .types
 
 -- Ancestors of a type are its base, that base's base, and so on. A base is 0 for none, else type number + 1.

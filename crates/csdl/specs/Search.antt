@@ -14,9 +14,9 @@ anyFrom test i zero = false
 anyFrom test i (suc n) = let rest = anyFrom test (i + 1) n in cond (test i) true rest
 
 -- 1 for true, 0 for false.
-abbrev pub mark : Bool → ℕ
-mark true = 1
-mark false = 0
+abbrev pub oneIf : Bool → ℕ
+oneIf true = 1
+oneIf false = 0
 
 -- The sum of f over the n numbers from i on.
 unfoldable pub sumFrom : (ℕ → ℕ) → ℕ → ℕ → ℕ
@@ -25,7 +25,7 @@ sumFrom f i (suc n) = f i + sumFrom f (i + 1) n
 
 -- How many of the n numbers from i on pass the test.
 abbrev pub countFrom : (ℕ → Bool) → ℕ → ℕ → ℕ
-countFrom test i n = sumFrom (λ k. mark (test k)) i n
+countFrom test i n = sumFrom (λ k. oneIf (test k)) i n
 
 -- f at the n numbers from i on, as a list.
 unfoldable pub tab : {A : Type 0} → (ℕ → A) → ℕ → ℕ → List A

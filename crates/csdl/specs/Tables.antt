@@ -5,16 +5,12 @@ use mathlib.Core.List.{List}
 use mathlib.Core.Bool.{Bool}
 use lib.ListN.{length}
 use Rattle.packed.specs.Field.{fieldOf, flagOf}
+use Rattle.csdl.specs.declared.Run.{Run}
 
 -- A name: where it starts in the name bytes, and its length; length 0 means absent.
 pub record Name : Type 0 where
   pub start : ℕ
   pub size : ℕ
-
--- A path, and any other run of records: its first record, and how many; count 0 means absent.
-pub record Run : Type 0 where
-  pub first : ℕ
-  pub count : ℕ
 
 -- Name: start 12, length 8.
 abbrev pub nameIn : List ℕ → ℕ → Name

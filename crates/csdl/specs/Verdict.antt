@@ -6,8 +6,8 @@ use lib.ListN.{drop}
 use Rattle.packed.specs.Bytes.{highByte, lowByte}
 use Rattle.csdl.specs.Search.{firstFrom, tab, flat, ifFound}
 use Rattle.csdl.specs.Model.{Model, places, recordAt}
-use Rattle.csdl.specs.Path.{Step, stepOfSegment}
-use Rattle.csdl.specs.Path.Step.{property, type}
+use Rattle.csdl.specs.Path.{Step, noReference, stepOfSegment}
+use Rattle.csdl.specs.Path.Step.{property, type, nothing}
 use Rattle.csdl.specs.Image.{modelIn, image1, buffer2}
 use Rattle.csdl.specs.Form.{rule3, rule4, rule5, rule6, rule7}
 use Rattle.csdl.specs.Types.{rule8, rule9}
@@ -55,18 +55,18 @@ verdict n (whole rule broken ∷ stages) otherwise = let later = verdict n stage
 verdict n (each rule test ∷ stages) otherwise = let later = verdict n stages otherwise in refuse rule (firstFrom test 0 n) later
 
 -- A rule of records, as a test of places.
-abbrev pub placed : Model → (Model → Record → Bool) → ℕ → Bool
-placed m rule place = rule m (recordAt m place)
+abbrev pub brokenAt : Model → (Model → Record → Bool) → ℕ → Bool
+brokenAt m rule place = rule m (recordAt m place)
 
 -- Rules 3 to 5, which the name of a record asks too, and 6 to 19.
 abbrev pub formStages : Model → List Stage
-formStages m = each 3 (placed m rule3) ∷ each 4 (placed m rule4) ∷ each 5 (placed m rule5) ∷ []
+formStages m = each 3 (brokenAt m rule3) ∷ each 4 (brokenAt m rule4) ∷ each 5 (brokenAt m rule5) ∷ []
 
 abbrev pub ruleStages : Model → List Stage
 ruleStages m =
-    each 6 (placed m rule6) ∷ each 7 (placed m rule7) ∷ each 8 (placed m rule8) ∷ each 9 (placed m rule9) ∷ each 10 (placed m rule10)
-    ∷ each 11 (placed m rule11) ∷ each 12 (placed m rule12) ∷ each 13 (placed m rule13) ∷ each 14 (placed m rule14) ∷ each 15 (placed m rule15)
-    ∷ each 16 (placed m rule16) ∷ each 17 (placed m rule17) ∷ each 18 (placed m rule18) ∷ each 19 (placed m rule19) ∷ []
+    each 6 (brokenAt m rule6) ∷ each 7 (brokenAt m rule7) ∷ each 8 (brokenAt m rule8) ∷ each 9 (brokenAt m rule9) ∷ each 10 (brokenAt m rule10)
+    ∷ each 11 (brokenAt m rule11) ∷ each 12 (brokenAt m rule12) ∷ each 13 (brokenAt m rule13) ∷ each 14 (brokenAt m rule14) ∷ each 15 (brokenAt m rule15)
+    ∷ each 16 (brokenAt m rule16) ∷ each 17 (brokenAt m rule17) ∷ each 18 (brokenAt m rule18) ∷ each 19 (brokenAt m rule19) ∷ []
 
 -- Rules 3 to 19 of a model.
 unfoldable pub modelStages : Model → List Stage
@@ -85,10 +85,12 @@ modelAnswer image buffer =
 unfoldable pub modelThen : List ℕ → Answer → Answer
 modelThen image otherwise = verdict 0 (whole 1 (image1 image) ∷ []) (modelVerdict (modelIn image) otherwise)
 
--- Two bytes a segment, high byte first: the property number, or 32768 + type number for a cast.
+-- Two bytes a segment, high byte first: the property number, or 32768 + type number for a cast. Nothing, which rule 14 leaves nowhere,
+-- has the code of a cast to no reference.
 abbrev pub stepCode : Step → ℕ
 stepCode (property p) = p
 stepCode (type c) = 32768 + c
+stepCode nothing = 32768 + noReference
 
 abbrev pub bytesOf : ℕ → List ℕ
 bytesOf n = highByte n ∷ lowByte n ∷ []

@@ -1,5 +1,5 @@
 -- The walk of a path through an instance, with its trace: the items at each stage, the slots opened, where each null came in, and whether
--- it runs to its end.
+-- it reaches its end.
 use Prim.Native.Nat.{ℕ, zero, suc, _+_, _-_, _*_, _/_, _%_, _^_}
 use mathlib.Core.List.{List, [], _∷_, _++_}
 use mathlib.Core.Bool.{Bool, true, false, cond, not, _&&_, _||_}
@@ -9,15 +9,18 @@ use Rattle.packed.specs.Bytes.{same}
 use Rattle.csdl.specs.Search.{firstFrom, tab, flat, all, ifFound}
 use Rattle.csdl.specs.Model.{Model, propertyText, present, recordAt}
 use Rattle.csdl.specs.Find.{structured, ancestorOrSelf}
-use Rattle.csdl.specs.Path.{Segment, Kind, segmentsOf, pathOf, startOf}
+use Rattle.csdl.specs.Path.{Segment, segmentsOf, pathOf, startOf}
+use Rattle.csdl.specs.declared.PathKind.{PathKind}
 use Rattle.csdl.specs.Path.Segment.{name, cast}
-use Rattle.csdl.specs.Path.Kind.{partner, key, dependent, principal, binding, target}
-use Rattle.csdl.specs.Instance.{Instance, instanceIn, itemBytes, handleBytes}
+use Rattle.csdl.specs.declared.PathKind.the-variants.{Partner, Key, Dependent, Principal, Binding, Target}
+use Rattle.csdl.specs.Instance.{Instance, ItemForm, itemForm, handleBytes, instanceIn}
 use Rattle.csdl.specs.Conforms.{isNull, instanceThen}
 use Rattle.csdl.specs.Image.{modelIn}
 use Rattle.csdl.specs.Verdict.{Answer, verdict, leaves}
 use Rattle.csdl.specs.Verdict.Answer.{accepted}
 use Rattle.csdl.specs.Verdict.Stage.{whole}
+use Rattle.csdl.specs.declared.Chosen.{Chosen}
+use Rattle.csdl.specs.declared.Chosen.the-variants.{NoPath, PathOf}
 use Rattle.csdl.specs.declared.Record.{Record}
 use Rattle.csdl.specs.declared.Record.the-variants.{OfSchema, OfType, OfProperty, OfKey, OfConstraint, OfChild, OfBinding, OfSegment, Nowhere}
 
@@ -29,7 +32,7 @@ pub data Origin : Type 0 where
 -- What stands at a stage of the walk: null, or an item with its type reference and handle.
 pub data Item : Type 0 where
   null : Origin → Item
-  held : ℕ → ℕ → Item
+  value : ℕ → ℕ → Item
 
 -- The slot of a name in a node: 0 for none, else its number plus 1.
 unfoldable pub slotNamed : Model → Instance → List ℕ → ℕ → ℕ
@@ -38,7 +41,7 @@ slotNamed m i nm v =
 
 -- Item k, which stands in slot s.
 unfoldable pub itemAt : Instance → ℕ → ℕ → Item
-itemAt i s k = cond (isNull i k) (null (at-slot s)) (held (i .itemRef k) (i .itemHandle k))
+itemAt i s k = cond (isNull i k) (null (at-slot s)) (value (i .itemRef k) (i .itemHandle k))
 
 -- The slot is null.
 abbrev pub slotNull : Instance → ℕ → Bool
@@ -51,7 +54,7 @@ contents i s = cond (slotNull i s) (null (at-slot s) ∷ []) (tab (λ k. itemAt 
 -- The slot that a segment opens at an item, if it is a name and the item a node with a slot of that name: 0 for none, else its number plus 1.
 unfoldable pub opening : Model → Instance → Segment → Item → ℕ
 opening m i (name nm) (null o) = 0
-opening m i (name nm) (held r v) = cond (structured m r) (slotNamed m i nm v) 0
+opening m i (name nm) (value r v) = cond (structured m r) (slotNamed m i nm v) 0
 opening m i (cast c) x = 0
 
 abbrev pub openedBy : ℕ → List ℕ
@@ -64,16 +67,16 @@ contentsBy i found = ifFound [] (λ s. contents i s) found
 -- else puts null; null remains null. Nothing takes the place of an item at which the walk stops short.
 unfoldable pub after : Model → Instance → Segment → Item → List Item
 after m i (name nm) (null o) = null o ∷ []
-after m i (name nm) (held r v) = contentsBy i (opening m i (name nm) (held r v))
+after m i (name nm) (value r v) = contentsBy i (opening m i (name nm) (value r v))
 after m i (cast c) (null o) = null o ∷ []
-after m i (cast c) (held r v) = cond (structured m r) (cond (ancestorOrSelf m c r) (held r v) (null (at-cast c v)) ∷ []) []
+after m i (cast c) (value r v) = cond (structured m r) (cond (ancestorOrSelf m c r) (value r v) (null (at-cast c v)) ∷ []) []
 
 -- The walk does not stop short at the item: a name meets null or a node with such a slot, a cast meets null or a node.
 unfoldable pub passes : Model → Instance → Segment → Item → Bool
 passes m i (name nm) (null o) = true
-passes m i (name nm) (held r v) = not (eqb (opening m i (name nm) (held r v)) 0)
+passes m i (name nm) (value r v) = not (eqb (opening m i (name nm) (value r v)) 0)
 passes m i (cast c) (null o) = true
-passes m i (cast c) (held r v) = structured m r
+passes m i (cast c) (value r v) = structured m r
 
 -- One segment, at every item of a stage.
 abbrev pub nextStage : Model → Instance → Segment → List Item → List Item
@@ -88,63 +91,65 @@ unfoldable pub opened : Model → Instance → List Segment → List Item → Li
 opened m i [] xs = []
 opened m i (g ∷ gs) xs = flat (λ x. openedBy (opening m i g x)) xs ++ opened m i gs (nextStage m i g xs)
 
-unfoldable pub runs : Model → Instance → List Segment → List Item → Bool
-runs m i [] xs = true
-runs m i (g ∷ gs) xs = all (λ x. passes m i g x) xs && runs m i gs (nextStage m i g xs)
+unfoldable pub reachesEnd : Model → Instance → List Segment → List Item → Bool
+reachesEnd m i [] xs = true
+reachesEnd m i (g ∷ gs) xs = all (λ x. passes m i g x) xs && reachesEnd m i gs (nextStage m i g xs)
 
 -- The walk begins with its start node.
 abbrev pub start : Instance → ℕ → List Item
-start i v = held (i .nodeType v) v ∷ []
+start i v = value (i .nodeType v) v ∷ []
 
 -- The path of a record: 0 is its path, 1 the principal or target path. The kind, if the record holds such a path.
-pub data Chosen : Type 0 where
-  none : Chosen
-  chosen : Kind → ℕ → Chosen
-
-abbrev pub ifPresent : Model → Kind → ℕ → Chosen
-ifPresent m w r = cond (present (pathOf m w r)) (chosen w r) none
+abbrev pub ifPresent : Model → PathKind → ℕ → Chosen
+ifPresent m w r = cond (present (pathOf m w r)) (PathOf w r) NoPath
 
 unfoldable pub pathChosen : Model → Record → ℕ → Chosen
-pathChosen m (OfSchema s) n = none
-pathChosen m (OfType t) n = none
-pathChosen m (OfProperty p) n = cond (eqb n 0) (ifPresent m partner p) none
-pathChosen m (OfKey k) n = cond (eqb n 0) (ifPresent m key k) none
-pathChosen m (OfConstraint c) n = cond (eqb n 0) (ifPresent m dependent c) (cond (eqb n 1) (ifPresent m principal c) none)
-pathChosen m (OfChild h) n = none
-pathChosen m (OfBinding b) n = cond (eqb n 0) (ifPresent m binding b) (cond (eqb n 1) (ifPresent m target b) none)
-pathChosen m (OfSegment g) n = none
-pathChosen m Nowhere n = none
+pathChosen m (OfSchema s) n = NoPath
+pathChosen m (OfType t) n = NoPath
+pathChosen m (OfProperty p) n = cond (eqb n 0) (ifPresent m Partner p) NoPath
+pathChosen m (OfKey k) n = cond (eqb n 0) (ifPresent m Key k) NoPath
+pathChosen m (OfConstraint c) n = cond (eqb n 0) (ifPresent m Dependent c) (cond (eqb n 1) (ifPresent m Principal c) NoPath)
+pathChosen m (OfChild h) n = NoPath
+pathChosen m (OfBinding b) n = cond (eqb n 0) (ifPresent m Binding b) (cond (eqb n 1) (ifPresent m Target b) NoPath)
+pathChosen m (OfSegment g) n = NoPath
+pathChosen m Nowhere n = NoPath
 
 -- The path's start type and segments.
 abbrev pub chosenStart : Model → Chosen → ℕ
-chosenStart m none = 0
-chosenStart m (chosen w r) = startOf m w r
+chosenStart m NoPath = 0
+chosenStart m (PathOf w r) = startOf m w r
 
 abbrev pub chosenSegments : Model → Chosen → List Segment
-chosenSegments m none = []
-chosenSegments m (chosen w r) = segmentsOf m (pathOf m w r)
+chosenSegments m NoPath = []
+chosenSegments m (PathOf w r) = segmentsOf m (pathOf m w r)
 
 -- Rule 27: the record has no such path.
 abbrev pub walk27 : Chosen → Bool
-walk27 none = true
-walk27 (chosen w r) = false
+walk27 NoPath = true
+walk27 (PathOf w r) = false
 
 -- Rule 28. 28a: the start node is not there. 28b: it is not at the start type.
 unfoldable pub walk28 : Model → Instance → ℕ → ℕ → Bool
 walk28 m i t v = not (ltb v (i .nodes)) || not (ancestorOrSelf m t (i .nodeType v))
 
 -- Rule 29: the result buffer has fewer bytes than an item for the start, each slot and each item take.
+abbrev pub walk29By : ItemForm → Instance → List ℕ → Bool
+walk29By form i buffer = ltb (length buffer) (form .bytes * (1 + i .slots + i .items))
+
 unfoldable pub walk29 : Instance → List ℕ → Bool
-walk29 i buffer = ltb (length buffer) (itemBytes * (1 + i .slots + i .items))
+walk29 i buffer = walk29By itemForm i buffer
 
 -- The bytes of an item: type reference, then the handle, high byte first; null is 255 with handle 0.
 unfoldable pub bytesOfNumber : ℕ → ℕ → List ℕ
 bytesOfNumber zero h = []
 bytesOfNumber (suc n) h = h / 256 ^ n % 256 ∷ bytesOfNumber n h
 
+abbrev pub bytesOfItemBy : ItemForm → Item → List ℕ
+bytesOfItemBy form (null o) = 255 ∷ bytesOfNumber (handleBytes form) 0
+bytesOfItemBy form (value r h) = r ∷ bytesOfNumber (handleBytes form) h
+
 unfoldable pub bytesOfItem : Item → List ℕ
-bytesOfItem (null o) = 255 ∷ bytesOfNumber handleBytes 0
-bytesOfItem (held r h) = r ∷ bytesOfNumber handleBytes h
+bytesOfItem x = bytesOfItemBy itemForm x
 
 -- The results of a walk and the slots that it opened.
 abbrev pub walkPath : List ℕ → ℕ → ℕ → Chosen

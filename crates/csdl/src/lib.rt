@@ -1,4 +1,13 @@
-// The answers of the three checks and the kinds of record, as the definitions in specs/ name them.
+// Runs of records, the answers of the three checks, the records and the kinds of path, as the definitions in specs/ name them.
+
+// A path, and any other run of records of a table: the first, and how many; count 0 means absent.
+pub struct Run {
+    pub first: u16,
+    pub count: u16,
+}
+
+// The version of every image, 4.02.
+pub const VERSION: u16 = 0x0402;
 
 // Where a place lies: the table and the number of its record, or past the last record.
 pub enum Record {
@@ -13,8 +22,24 @@ pub enum Record {
     Nowhere,
 }
 
+// The six kinds of path, by what holds one.
+pub enum PathKind {
+    Partner,
+    Key,
+    Dependent,
+    Principal,
+    Binding,
+    Target,
+}
+
+// The path that a walk takes: of a kind and a record that holds it, or none.
+pub enum Chosen {
+    NoPath,
+    PathOf { kind: PathKind, holder: u16 },
+}
+
 // Where a place of an instance lies.
-pub enum Part {
+pub enum InstanceRecord {
     OfNode(u16),
     OfSlot(u16),
     OfItem(u16),

@@ -14,15 +14,16 @@ use Rattle.csdl.specs.Search.{tab, flat}
 use Rattle.csdl.specs.Model.{Model, present}
 use Rattle.csdl.specs.Image.{modelIn, header, buffer2}
 use Rattle.csdl.specs.Find.{ancestorOrSelf}
-use Rattle.csdl.specs.Path.{Kind, Step, segmentsOf, pathOf, startOf, pathSteps, stepOfSegment}
-use Rattle.csdl.specs.Path.Step.{type}
+use Rattle.csdl.specs.Path.{Step, segmentsOf, pathOf, startOf, pathSteps, stepOfSegment}
+use Rattle.csdl.specs.declared.PathKind.{PathKind}
+use Rattle.csdl.specs.Path.Step.{nothing}
 use Rattle.csdl.specs.Paths.{rule13}
 use Rattle.csdl.specs.Instance.{instanceIn}
 use Rattle.csdl.specs.Verdict.{Answer, stepCode, bytesOf, resolution, modelAnswer, modelBuffer}
 use Rattle.csdl.specs.Verdict.Answer.{accepted, refused}
 use Rattle.csdl.specs.Conforms.{instanceAnswer}
 use Rattle.csdl.specs.Walk.{Item, walked, start, walkPath, walk28, walk29, walkResults, walkOpened, walkAnswer, walkBuffer, resultBytes, bytesOfItem}
-use Rattle.csdl.specs.Walk.Chosen.{chosen}
+use Rattle.csdl.specs.declared.Chosen.the-variants.{PathOf}
 use Rattle.csdl.specs.Walk.Item.{null}
 use Rattle.csdl.specs.Walk.Origin.{at-slot}
 use Rattle.csdl.specs.Accepted.{ModelPasses, InstancePasses, WalkPasses}
@@ -134,7 +135,7 @@ module _ (image before : List ℕ) where
       }
     where
       in-path : ModelPasses image → (g : ℕ) → g < m .segments →
-          (kind : Kind) × (r k : ℕ) × Held m kind r × (k < pathOf m kind r .count) × (g ≡ pathOf m kind r .first + k)
+          (kind : PathKind) × (r k : ℕ) × Held m kind r × (k < pathOf m kind r .count) × (g ≡ pathOf m kind r .first + k)
       in-path p g l =
           let s = its-path m g (of-segment m rule13 (p .model-kept .kept13) g l) in
           let run = pathOf m (s .0) (s .1) in
@@ -142,8 +143,8 @@ module _ (image before : List ℕ) where
           let n : present run ≡ true = rw (ne-eqb (run .count) 0 (λ e. omega arith)) in
           (s .0, s .1, g - run .first, record { holder-there = s .2; path-there = n }, omega arith, omega arith)
 
-      two : upper w ≡ 0 → ModelPasses image → (kind : Kind) (r : ℕ) → Held m kind r → (k : ℕ) → k < pathOf m kind r .count →
-          part (modelBuffer image before) (2 * (pathOf m kind r .first + k)) 2 ≡ bytesOf (stepCode (getD (pathSteps m kind r) k (type 0)))
+      two : upper w ≡ 0 → ModelPasses image → (kind : PathKind) (r : ℕ) → Held m kind r → (k : ℕ) → k < pathOf m kind r .count →
+          part (modelBuffer image before) (2 * (pathOf m kind r .first + k)) 2 ≡ bytesOf (stepCode (getD (pathSteps m kind r) k nothing))
       two h p kind r held k l =
           let run = pathOf m kind r in
           let g = run .first + k in
@@ -223,7 +224,7 @@ module _ (model image : List ℕ) (place n v : ℕ) (before : List ℕ) where
   rest-in h = omega (arith, four-each, says-two h .0)
 
   -- The walk along the path of a kind that record r holds.
-  module _ (conforms : instanceAnswer model image ≡ accepted []) (kind : Kind) (r : ℕ) (path : walkPath model place n ≡ chosen kind r)
+  module _ (conforms : instanceAnswer model image ≡ accepted []) (kind : PathKind) (r : ℕ) (path : walkPath model place n ≡ PathOf kind r)
       (there : v < instanceIn image .nodes) (fitting : ancestorOrSelf (modelIn model) (startOf (modelIn model) kind r) (instanceIn image .nodeType v) ≡ true) where
     abbrev along : List Item
     along = walked (modelIn model) (instanceIn image) (segmentsOf (modelIn model) (pathOf (modelIn model) kind r)) (start (instanceIn image) v)
@@ -278,7 +279,7 @@ module _ (model image : List ℕ) (place n v : ℕ) (before : List ℕ) where
           walk-refuses model image place n v before (upper ww) (lower ww) .0 (stopped-in h),
         );
         every-path = λ p kind r h e f g room.
-            let c : walkPath model place n ≡ chosen kind r = rw (e, f) (held-chosen (modelIn model) kind r h) in
+            let c : walkPath model place n ≡ PathOf kind r = rw (e, f) (held-chosen (modelIn model) kind r h) in
             let q = instance-accepts model image .1 p in
             let o = not-refused model image q place n kind r c v (g .0) (g .1) before room in
             let z = walk-back (walk-accepts model image place n v before _ .0 o .0) in

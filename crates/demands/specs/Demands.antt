@@ -14,18 +14,19 @@ use mathlib.Core.Bool.{true}
 use mathlib.Core.Logic.{_↔_, _⊎_}
 use lib.ListN.{length, drop, getD}
 use Rattle.packed.specs.Bytes.{part}
-use Rattle.csdl.specs.Tables.{Run}
+use Rattle.csdl.specs.declared.Run.{Run}
 use Rattle.csdl.specs.Model.{Model, inRun, places}
 use Rattle.csdl.specs.Image.{modelIn}
 use Rattle.csdl.specs.Find.{ancestorOrSelf}
-use Rattle.csdl.specs.Path.{Kind, Segment, segmentsOf, resolves, pathOf, startOf, pathSteps, pathEnd}
-use Rattle.csdl.specs.Path.Kind.{key}
-use Rattle.csdl.specs.Path.Step.{type}
-use Rattle.csdl.specs.Instance.{Instance, instanceIn, parts}
+use Rattle.csdl.specs.Path.{Segment, segmentsOf, resolves, pathOf, startOf, pathSteps, pathEnd}
+use Rattle.csdl.specs.declared.PathKind.{PathKind}
+use Rattle.csdl.specs.declared.PathKind.the-variants.{Key}
+use Rattle.csdl.specs.Path.Step.{nothing}
+use Rattle.csdl.specs.Instance.{Instance, instanceIn, instancePlaces}
 use Rattle.csdl.specs.Verdict.{stepCode, bytesOf}
-use Rattle.csdl.specs.Walk.{Item, runs, start, walked, opened, walkPath, bytesOfItem}
-use Rattle.csdl.specs.Walk.Chosen.{chosen}
-use Rattle.csdl.specs.Walk.Item.{null, held}
+use Rattle.csdl.specs.Walk.{Item, reachesEnd, start, walked, opened, walkPath, bytesOfItem}
+use Rattle.csdl.specs.declared.Chosen.the-variants.{PathOf}
+use Rattle.csdl.specs.Walk.Item.{null, value}
 use Rattle.csdl.specs.Walk.Origin.{at-slot}
 use Rattle.csdl.specs.Relations.{Ancestor}
 use Rattle.csdl.specs.Accepted.{ModelPasses, InstancePasses, WalkPasses, IsNull, Lowest, checkStages, laterStages, conformStages, walkStages}
@@ -38,7 +39,7 @@ module _ (model : List ℕ) where
   abbrev m : Model
   m = modelIn model
 
-  abbrev pathIn : Kind → ℕ → Run
+  abbrev pathIn : PathKind → ℕ → Run
   pathIn kind r = pathOf m kind r
 
   -- tour_check_model, with the resolution buffer.
@@ -55,14 +56,14 @@ module _ (model : List ℕ) where
     pub refuses : 1 ≤ upper w → (upper w ≤ 19) × Lowest (places m) (checkStages model before) (upper w) (lower w)
     -- (2d) Each segment is the k-th of a path that a record holds, and of no other path. Segments.its-path, Segments.only-path
     pub each-in-path : upper w ≡ 0 → (g : ℕ) → g < m .segments →
-        (kind : Kind) × (r k : ℕ) × Held m kind r × (k < pathIn kind r .count) × (g ≡ pathIn kind r .first + k)
-    pub in-one-path : upper w ≡ 0 → (g : ℕ) → g < m .segments → (kind : Kind) (r : ℕ) → Held m kind r → inRun (pathIn kind r) g ≡ true →
-        (other : Kind) (s : ℕ) → Held m other s → inRun (pathIn other s) g ≡ true → (other ≡ kind) × (s ≡ r)
+        (kind : PathKind) × (r k : ℕ) × Held m kind r × (k < pathIn kind r .count) × (g ≡ pathIn kind r .first + k)
+    pub in-one-path : upper w ≡ 0 → (g : ℕ) → g < m .segments → (kind : PathKind) (r : ℕ) → Held m kind r → inRun (pathIn kind r) g ≡ true →
+        (other : PathKind) (s : ℕ) → Held m other s → inRun (pathIn other s) g ≡ true → (other ≡ kind) × (s ≡ r)
     -- (2e) Each path that a record holds resolves, and its k-th segment's two bytes are its k-th step: a property's number, or 32768 and the type
     -- of a cast, high byte first. PathRules.resolved, Segments.its-step, Segments.step-in-path
-    pub resolved : upper w ≡ 0 → (kind : Kind) (r : ℕ) → Held m kind r → resolves m (startOf m kind r) (segmentsOf m (pathIn kind r)) ≡ true
-    pub two-bytes : upper w ≡ 0 → (kind : Kind) (r : ℕ) → Held m kind r → (k : ℕ) → k < pathIn kind r .count →
-        part after (2 * (pathIn kind r .first + k)) 2 ≡ bytesOf (stepCode (getD (pathSteps m kind r) k (type 0)))
+    pub resolved : upper w ≡ 0 → (kind : PathKind) (r : ℕ) → Held m kind r → resolves m (startOf m kind r) (segmentsOf m (pathIn kind r)) ≡ true
+    pub two-bytes : upper w ≡ 0 → (kind : PathKind) (r : ℕ) → Held m kind r → (k : ℕ) → k < pathIn kind r .count →
+        part after (2 * (pathIn kind r .first + k)) 2 ≡ bytesOf (stepCode (getD (pathSteps m kind r) k nothing))
     -- (2f) The bytes after those stay.
     pub rest-stays : upper w ≡ 0 → drop (2 * m .segments) after ≡ drop (2 * m .segments) before
     -- (3a) No type of an accepted model is its own ancestor. Demands.no-own-ancestor
@@ -73,7 +74,7 @@ module _ (model : List ℕ) where
     abbrev i : Instance
     i = instanceIn image
 
-    abbrev MayStart : Kind → ℕ → ℕ → Type 0
+    abbrev MayStart : PathKind → ℕ → ℕ → Type 0
     MayStart kind r v = (v < i .nodes) × (ancestorOrSelf m (startOf m kind r) (i .nodeType v) ≡ true)
 
     -- tour_check_instance.
@@ -85,12 +86,12 @@ module _ (model : List ℕ) where
       -- (2c) A refusal is the lowest broken rule, one of 1 to 26, and the lowest place that breaks it: in the model's image up to 19, else in the
       -- instance's. Verdicts.instance-refuses, Bounds.instance-refusal
       pub refuses : 1 ≤ upper w → (upper w ≤ 26)
-          × (Lowest (places m) (laterStages model) (upper w) (lower w) ⊎ (ModelPasses model × Lowest (parts i) (conformStages model image) (upper w) (lower w)))
+          × (Lowest (places m) (laterStages model) (upper w) (lower w) ⊎ (ModelPasses model × Lowest (instancePlaces i) (conformStages model image) (upper w) (lower w)))
       -- (3a) No type of the model is its own ancestor. Demands.no-own-ancestor
       pub no-own-ancestor : upper w ≡ 0 → (t : ℕ) → t < m .types → Ancestor m t t → ⊥
 
     -- A walk that is not refused, from node v along the path of a kind that record r holds.
-    module _ (kind : Kind) (r v : ℕ) where
+    module _ (kind : PathKind) (r v : ℕ) where
       abbrev path : List Segment
       path = segmentsOf m (pathIn kind r)
 
@@ -103,7 +104,7 @@ module _ (model : List ℕ) where
 
       pub record PathPromise (w : ℕ) (after : List ℕ) : Type 0 where
         -- (3b) It ran to its end: every segment was taken. Demands.every-path
-        pub to-its-end : runs m i path (start i v) ≡ true
+        pub to-its-end : reachesEnd m i path (start i v) ≡ true
         -- (3c) Each result is null, or lies at the path's declared type or one derived from it; one of structured type is a node of its type.
         -- Demands.every-path
         pub each-result : All (LiesAt m i (pathEnd m kind r)) results
@@ -112,7 +113,7 @@ module _ (model : List ℕ) where
         -- Demands.every-path
         pub each-null : All (NullHasOrigin m i path v) results
         -- (3e) A key path has exactly one result, and it is not null. Demands.one-result
-        pub key-one : kind ≡ key → (resultsIn w ≡ 1) × ((ref handle : ℕ) × (results ≡ held ref handle ∷ []))
+        pub key-one : kind ≡ Key → (resultsIn w ≡ 1) × ((ref handle : ℕ) × (results ≡ value ref handle ∷ []))
         -- (3f) No slot was opened twice. Demands.every-path
         pub none-twice : Distinct slots
         -- (3g) The two numbers are the results and the slots opened, at most as many as the instance has. Words.walk-word, Demands.every-path
@@ -134,14 +135,14 @@ module _ (model : List ℕ) where
       -- 0 from 27 on. Verdicts.walk-accepts, Verdicts.walk-refuses, Bounds.walk-refusal
       pub accepts : (upper w ≡ 0) ↔ WalkPasses model image place n v before
       pub refuses : 1 ≤ upper w → (upper w ≤ 29) × (Lowest (places m) (laterStages model) (upper w) (lower w)
-          ⊎ (ModelPasses model × (Lowest (parts i) (conformStages model image) (upper w) (lower w)
+          ⊎ (ModelPasses model × (Lowest (instancePlaces i) (conformStages model image) (upper w) (lower w)
           ⊎ (InstancePasses model image × Lowest 0 (walkStages model image place n v before) (upper w) (lower w)))))
       -- (3b) to (3h) With an accepted instance, every path that a record holds, asked for by its place and number, from a node at which it may start,
       -- into a buffer with room for an item for the start, each slot and each item, is walked. Demands.not-refused, Demands.each-has-place
-      pub every-path : InstancePasses model image → (kind : Kind) (r : ℕ) → Held m kind r → place ≡ heldPlace m kind r → n ≡ heldNumber kind →
+      pub every-path : InstancePasses model image → (kind : PathKind) (r : ℕ) → Held m kind r → place ≡ heldPlace m kind r → n ≡ heldNumber kind →
           MayStart kind r v → 4 * (1 + i .slots + i .items) ≤ length before → (upper w ≡ 0) × PathPromise kind r v w after
       -- (3i) Every walk that is not refused is such a walk. Demands.premises-of-walk, Demands.each-is-held
-      pub walks-a-path : upper w ≡ 0 → (kind : Kind) × (r : ℕ) × (walkPath model place n ≡ chosen kind r) × Held m kind r × MayStart kind r v
+      pub walks-a-path : upper w ≡ 0 → (kind : PathKind) × (r : ℕ) × (walkPath model place n ≡ PathOf kind r) × Held m kind r × MayStart kind r v
           × PathPromise kind r v w after
       -- (3h) The bytes after the results stay.
       pub rest-stays : upper w ≡ 0 → drop (4 * resultsIn w) after ≡ drop (4 * resultsIn w) before

@@ -1,4 +1,4 @@
-// Records in words: the kind and the number of a record, its name, and what it belongs to. `at` is the layout of the image; `names` are
+// Records in words: what a record is and its number, its name, and what it belongs to. `at` is the layout of the image; `names` are
 // its name bytes, or no bytes where they cannot be read.
 ghost use Rattle.model_image.specs.Laid.{Laid};
 use crate::print::named;

@@ -5,52 +5,67 @@ ghost use Rattle.model_image.specs.Laid.{Laid};
 use crate::description::property_in_words;
 use crate::description::type_in_words;
 use crate::paths::heading;
-use crate::paths::holders;
-use crate::paths::path_of;
 use crate::paths::place_after;
 use crate::print::column;
 use crate::print::right;
 use crate::print::text;
+use csdl::PathKind;
 use lookup::texts::property_text;
 use lookup::texts::type_text;
 use model_image::layout::Layout;
 use model_image::layout::names_of;
 use model_image::layout::properties_of;
 use model_image::layout::types_of;
+use path_kinds::in_image::holders_in;
+use path_kinds::in_image::path_in;
 
 // The paths in image order: partners, keys, then the two paths of each constraint and of each binding.
 pub fn paths(image: &[u8], at: Layout, resolution: &[u8; sheet::RESOLUTION_SIZE])
     requires { ⌜ Laid (now image) at ⌝ }
 {
-    paths_of(image, at, resolution, 0, 0);
-    paths_of(image, at, resolution, 1, 1);
-    paths_of(image, at, resolution, 2, 3);
-    paths_of(image, at, resolution, 4, 5);
+    paths_of(image, at, resolution, PathKind::Partner);
+    paths_of(image, at, resolution, PathKind::Key);
+    two_paths_of(
+        image,
+        at,
+        resolution,
+        PathKind::Dependent,
+        PathKind::Principal,
+    );
+    two_paths_of(image, at, resolution, PathKind::Binding, PathKind::Target);
 }
 
-// For each record the paths of these kinds, which are two kinds of one table.
-fn paths_of(
-    image: &[u8],
-    at: Layout,
-    resolution: &[u8; sheet::RESOLUTION_SIZE],
-    first: u16,
-    last: u16,
-)
+// For each record its path of the kind.
+fn paths_of(image: &[u8], at: Layout, resolution: &[u8; sheet::RESOLUTION_SIZE], kind: PathKind)
     requires { ⌜ Laid (now image) at ⌝ }
 {
-    let n = holders(image, at, first);
+    let n = holders_in(image, at, kind);
     for r in 0..n {
-        path(image, at, resolution, first, r);
-        if first != last {
-            path(image, at, resolution, last, r);
-        }
+        path(image, at, resolution, kind, r);
     }
 }
 
-fn path(image: &[u8], at: Layout, resolution: &[u8; sheet::RESOLUTION_SIZE], kind: u16, r: u16)
+// For each record its paths of both kinds, which are kinds of one table.
+fn two_paths_of(
+    image: &[u8],
+    at: Layout,
+    resolution: &[u8; sheet::RESOLUTION_SIZE],
+    first: PathKind,
+    second: PathKind,
+)
     requires { ⌜ Laid (now image) at ⌝ }
 {
-    let run = path_of(image, at, kind, r);
+    let n = holders_in(image, at, first);
+    for r in 0..n {
+        path(image, at, resolution, first, r);
+        path(image, at, resolution, second, r);
+    }
+}
+
+fn path(image: &[u8], at: Layout, resolution: &[u8; sheet::RESOLUTION_SIZE], kind: PathKind, r: u16)
+    requires { ⌜ Laid (now image) at ⌝ }
+{
+    let run = path_in(image, at, kind, r);
     let first = run.first;
     let count = run.count;
     if count == 0 {

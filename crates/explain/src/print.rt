@@ -63,5 +63,5 @@ fn digits(n: u16) -> u16
 
 // At most 20 blanks.
 fn blanks(n: u16) {
-    text(packed::part_of(b"                    ", 0, n));
+    text(packed::part_of(b"                    ", 0, n as u32));
 }

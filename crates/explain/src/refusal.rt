@@ -1,15 +1,17 @@
-// A refusal by rules 3 to 19 in words: the record, the paths that hold it if it is a segment, the rule and the section.
+// A refusal by rules 3 to 19 in words: the record, the paths that have it if it is a segment, the rule and the section.
 ghost use Rattle.model_image.specs.Laid.{Laid};
 use crate::description::record;
 use crate::paths::heading;
-use crate::paths::holders;
-use crate::paths::path_of;
 use crate::print::text;
 use crate::rulebook;
+use csdl::PathKind;
 use csdl::Record;
 use model_image::layout::Layout;
 use model_image::layout::names_of;
 use model_image::layout::record_at;
+use path_kinds::in_image::holders_in;
+use path_kinds::in_image::path_in;
+use path_kinds::kinds::kind_at;
 
 pub fn explain(image: &[u8], at: Layout, rule: u16, place: u16)
     requires { ⌜ Laid (now image) at ⌝ }
@@ -33,18 +35,18 @@ fn faulty(image: &[u8], at: Layout, rule: u16, place: u16)
     text(b"\n");
     let rec = record_at(at, place);
     match rec {
-        Record::OfSegment(g) => holding(image, at, g),
+        Record::OfSegment(g) => paths_with(image, at, g),
         _ => {}
     }
 }
 
-// The paths that hold a segment: none, or the first two.
-fn holding(image: &[u8], at: Layout, g: u16)
+// The paths that have a segment: none, or the first two.
+fn paths_with(image: &[u8], at: Layout, g: u16)
     requires { ⌜ Laid (now image) at ⌝ }
 {
     let mut left: u16 = 2;
-    for kind in 0..6 {
-        left = holding_of(image, at, kind, g, left);
+    for n in 0..6 {
+        left = kind_with(image, at, kind_at(n), g, left);
     }
     if left == 2 {
         text(b"path     none\n");
@@ -52,24 +54,24 @@ fn holding(image: &[u8], at: Layout, g: u16)
 }
 
 // The same of one kind, `left` at most; answers how many are left.
-fn holding_of(image: &[u8], at: Layout, kind: u16, g: u16, left: u16) -> u16
+fn kind_with(image: &[u8], at: Layout, kind: PathKind, g: u16, left: u16) -> u16
     requires { ⌜ Laid (now image) at ⌝ }
 {
-    let n = holders(image, at, kind);
+    let n = holders_in(image, at, kind);
     let mut more = left;
     for r in 0..n {
-        more = holding_in(image, at, kind, r, g, more);
+        more = path_with(image, at, kind, r, g, more);
     }
     more
 }
 
-fn holding_in(image: &[u8], at: Layout, kind: u16, r: u16, g: u16, left: u16) -> u16
+fn path_with(image: &[u8], at: Layout, kind: PathKind, r: u16, g: u16, left: u16) -> u16
     requires { ⌜ Laid (now image) at ⌝ }
 {
     if left == 0 {
         return 0;
     }
-    let run = path_of(image, at, kind, r);
+    let run = path_in(image, at, kind, r);
     let first = run.first;
     let count = run.count;
     if (g < first) | (first + count <= g) {

@@ -7,8 +7,8 @@ use native.Mathlib.Omega.{arith}
 use Rattle.csdl.specs.Search.{firstFrom, orElse}
 use Rattle.csdl.specs.Model.{Model, modelOf}
 use Rattle.csdl.specs.Find.{ofKind, structured, ancestor, ancestorOrSelf, declares, own, find, isNameOf, complexStep, containStep, integral}
-use Rattle.csdl.specs.Instance.{Instance, instanceOf, instanceIn, nodeCount, slotCount, itemCount, parts}
-use Rattle.csdl.specs.Conforms.{node21a, slot21b, item21c, rule21, node22, rule22, slotsOf, node23, rule23, slot24, rule24, carriesNode, item25of, item25, rule25, holdsItem, holdsNode, node26, rule26, placedPart, instanceStages}
+use Rattle.csdl.specs.Instance.{Instance, instanceOf, instanceIn, nodeCount, slotCount, itemCount, instancePlaces}
+use Rattle.csdl.specs.Conforms.{node21a, slot21b, item21c, rule21, node22, rule22, slotsOf, node23, rule23, slot24, rule24, carriesNode, item25of, item25, rule25, holdsItem, holdsNode, node26, rule26, instanceBrokenAt, instanceStages}
 use Rattle.csdl.specs.Verdict.{Answer, Stage, refuse, verdict}
 use Rattle.csdl.specs.Verdict.Answer.{refused}
 use Rattle.csdl.specs.Verdict.Stage.{each}
@@ -16,8 +16,8 @@ use Rattle.instance_runs.specs.Tables.{further}
 use Rattle.csdl.specs.Image.{modelIn}
 use Rattle.model_image.specs.Laid.{schemasIn, typesIn, propertiesIn, keysIn, constraintsIn, childrenIn, bindingsIn, segmentsIn, namesIn}
 use Rattle.instance_image.specs.Tables.{nodesIn, slotsIn, itemsIn}
-use Rattle.instance_check.specs.Stages.{ruleNo, lowestPart}
-use Rattle.instance_values.proofs.Places.{first-part, nodes-only, slots-only, items-only}
+use Rattle.instance_check.specs.Stages.{ruleNo, lowestInstancePlace}
+use Rattle.instance_values.proofs.Places.{first-record, nodes-only, slots-only, items-only}
 
 -- A rule that is broken; one that is kept.
 pub stage-hit : (n rule x : ℕ) (test : ℕ → Bool) (stages : List Stage) (o : Answer) → x ≡ firstFrom test 0 n → (x ≡ 0 → ⊥)
@@ -81,85 +81,85 @@ pub further-is : (d y : ℕ) → (y ≡ 0 → ⊥) → d + y ≡ further d y
 further-is d zero n = absurd (n refl)
 further-is d (suc y) n = refl
 
--- Rule 21 by its parts.
+-- Rule 21 by its tables.
 pub first-21 : (m : Model) (i : Instance)
-    → firstFrom (placedPart m i rule21) 0 (parts i)
+    → firstFrom (instanceBrokenAt m i rule21) 0 (instancePlaces i)
     ≡ orElse (firstFrom (λ v. node21a m i v) 0 (i .nodes))
     (orElse (further (i .nodes) (firstFrom (λ s. slot21b m i s) 0 (i .slots))) (further (i .nodes + i .slots) (firstFrom (λ k. item21c i k) 0 (i .items))))
 unfolding rule21
-first-21 m i = first-part i (rule21 m i)
+first-21 m i = first-record i (rule21 m i)
 
 -- ---- what was found at the tables that a rule reads, as what is found at all tables
 module _ (sc ty pr ke co ch bi sg nm no sl it : List ℕ) (x : ℕ) where
-  pub found-21 : x ≡ firstFrom (placedPart (modelOf [] ty pr [] [] [] [] [] []) (instanceOf no sl it) rule21) 0 (parts (instanceOf no sl it))
-      → x ≡ firstFrom (placedPart (modelOf sc ty pr ke co ch bi sg nm) (instanceOf no sl it) rule21) 0 (parts (instanceOf no sl it))
+  pub found-21 : x ≡ firstFrom (instanceBrokenAt (modelOf [] ty pr [] [] [] [] [] []) (instanceOf no sl it) rule21) 0 (instancePlaces (instanceOf no sl it))
+      → x ≡ firstFrom (instanceBrokenAt (modelOf sc ty pr ke co ch bi sg nm) (instanceOf no sl it) rule21) 0 (instancePlaces (instanceOf no sl it))
   unfolding modelOf node21a slot21b
   found-21 e =
       e ∙ first-21 (modelOf [] ty pr [] [] [] [] [] []) (instanceOf no sl it) ∙ sym (first-21 (modelOf sc ty pr ke co ch bi sg nm) (instanceOf no sl it))
 
   pub found-22 : x ≡ firstFrom (λ v. node22 (modelOf [] ty [] [] [] [] [] [] []) (instanceOf no [] []) v) 0 (nodeCount no)
-      → x ≡ firstFrom (placedPart (modelOf sc ty pr ke co ch bi sg nm) (instanceOf no sl it) rule22) 0 (parts (instanceOf no sl it))
+      → x ≡ firstFrom (instanceBrokenAt (modelOf sc ty pr ke co ch bi sg nm) (instanceOf no sl it) rule22) 0 (instancePlaces (instanceOf no sl it))
   unfolding modelOf instanceOf node22 structured
   found-22 e = e ∙ sym (nodes-only (instanceOf no sl it) (λ v. node22 (modelOf sc ty pr ke co ch bi sg nm) (instanceOf no sl it) v))
 
   pub found-23 : x ≡ firstFrom (λ v. node23 (modelOf [] ty pr [] [] [] [] [] nm) (instanceOf no sl []) v) 0 (nodeCount no)
-      → x ≡ firstFrom (placedPart (modelOf sc ty pr ke co ch bi sg nm) (instanceOf no sl it) rule23) 0 (parts (instanceOf no sl it))
+      → x ≡ firstFrom (instanceBrokenAt (modelOf sc ty pr ke co ch bi sg nm) (instanceOf no sl it) rule23) 0 (instancePlaces (instanceOf no sl it))
   unfolding modelOf instanceOf node23 slotsOf isNameOf find own declares
   found-23 e = e ∙ sym (nodes-only (instanceOf no sl it) (λ v. node23 (modelOf sc ty pr ke co ch bi sg nm) (instanceOf no sl it) v))
 
   pub found-24 : x ≡ further (nodeCount no) (firstFrom (λ s. slot24 (modelOf [] [] pr [] [] [] [] [] []) (instanceOf [] sl []) s) 0 (slotCount sl))
-      → x ≡ firstFrom (placedPart (modelOf sc ty pr ke co ch bi sg nm) (instanceOf no sl it) rule24) 0 (parts (instanceOf no sl it))
+      → x ≡ firstFrom (instanceBrokenAt (modelOf sc ty pr ke co ch bi sg nm) (instanceOf no sl it) rule24) 0 (instancePlaces (instanceOf no sl it))
   unfolding modelOf instanceOf slot24
   found-24 e = e ∙ sym (slots-only (instanceOf no sl it) (λ s. slot24 (modelOf sc ty pr ke co ch bi sg nm) (instanceOf no sl it) s))
 
   pub found-25 : x ≡ further (nodeCount no + slotCount sl) (firstFrom (λ k. item25 (modelOf [] ty pr [] [] [] [] [] []) (instanceOf no sl it) k) 0 (itemCount it))
-      → x ≡ firstFrom (placedPart (modelOf sc ty pr ke co ch bi sg nm) (instanceOf no sl it) rule25) 0 (parts (instanceOf no sl it))
+      → x ≡ firstFrom (instanceBrokenAt (modelOf sc ty pr ke co ch bi sg nm) (instanceOf no sl it) rule25) 0 (instancePlaces (instanceOf no sl it))
   unfolding modelOf instanceOf item25 item25of structured carriesNode ancestorOrSelf ancestor
   found-25 e = e ∙ sym (items-only (instanceOf no sl it) (λ k. item25 (modelOf sc ty pr ke co ch bi sg nm) (instanceOf no sl it) k))
 
   pub found-26 : x ≡ firstFrom (λ w. node26 (modelOf [] ty pr [] [] [] [] [] []) (instanceOf no sl it) w) 0 (nodeCount no)
-      → x ≡ firstFrom (placedPart (modelOf sc ty pr ke co ch bi sg nm) (instanceOf no sl it) rule26) 0 (parts (instanceOf no sl it))
+      → x ≡ firstFrom (instanceBrokenAt (modelOf sc ty pr ke co ch bi sg nm) (instanceOf no sl it) rule26) 0 (instancePlaces (instanceOf no sl it))
   unfolding modelOf instanceOf node26 holdsNode holdsItem integral complexStep containStep ofKind
   found-26 e = e ∙ sym (nodes-only (instanceOf no sl it) (λ w. node26 (modelOf sc ty pr ke co ch bi sg nm) (instanceOf no sl it) w))
 
 -- The same over the two images.
 module _ (m i : List ℕ) (x : ℕ) where
-  pub in-21 : x ≡ firstFrom (placedPart (modelOf [] (typesIn m) (propertiesIn m) [] [] [] [] [] []) (instanceOf (nodesIn i) (slotsIn i) (itemsIn i)) rule21) 0 (parts (instanceOf (nodesIn i) (slotsIn i) (itemsIn i)))
-      → x ≡ lowestPart (modelIn m) (instanceIn i) rule21
-  unfolding modelIn instanceIn lowestPart
+  pub in-21 : x ≡ firstFrom (instanceBrokenAt (modelOf [] (typesIn m) (propertiesIn m) [] [] [] [] [] []) (instanceOf (nodesIn i) (slotsIn i) (itemsIn i)) rule21) 0 (instancePlaces (instanceOf (nodesIn i) (slotsIn i) (itemsIn i)))
+      → x ≡ lowestInstancePlace (modelIn m) (instanceIn i) rule21
+  unfolding modelIn instanceIn lowestInstancePlace
   in-21 e = found-21 (schemasIn m) (typesIn m) (propertiesIn m) (keysIn m) (constraintsIn m) (childrenIn m) (bindingsIn m) (segmentsIn m) (namesIn m) (nodesIn i) (slotsIn i) (itemsIn i) x e
 
-  pub in-22 : x ≡ firstFrom (λ v. node22 (modelOf [] (typesIn m) [] [] [] [] [] [] []) (instanceOf (nodesIn i) [] []) v) 0 (nodeCount (nodesIn i)) → x ≡ lowestPart (modelIn m) (instanceIn i) rule22
-  unfolding modelIn instanceIn lowestPart
+  pub in-22 : x ≡ firstFrom (λ v. node22 (modelOf [] (typesIn m) [] [] [] [] [] [] []) (instanceOf (nodesIn i) [] []) v) 0 (nodeCount (nodesIn i)) → x ≡ lowestInstancePlace (modelIn m) (instanceIn i) rule22
+  unfolding modelIn instanceIn lowestInstancePlace
   in-22 e = found-22 (schemasIn m) (typesIn m) (propertiesIn m) (keysIn m) (constraintsIn m) (childrenIn m) (bindingsIn m) (segmentsIn m) (namesIn m) (nodesIn i) (slotsIn i) (itemsIn i) x e
 
-  pub in-23 : x ≡ firstFrom (λ v. node23 (modelOf [] (typesIn m) (propertiesIn m) [] [] [] [] [] (namesIn m)) (instanceOf (nodesIn i) (slotsIn i) []) v) 0 (nodeCount (nodesIn i)) → x ≡ lowestPart (modelIn m) (instanceIn i) rule23
-  unfolding modelIn instanceIn lowestPart
+  pub in-23 : x ≡ firstFrom (λ v. node23 (modelOf [] (typesIn m) (propertiesIn m) [] [] [] [] [] (namesIn m)) (instanceOf (nodesIn i) (slotsIn i) []) v) 0 (nodeCount (nodesIn i)) → x ≡ lowestInstancePlace (modelIn m) (instanceIn i) rule23
+  unfolding modelIn instanceIn lowestInstancePlace
   in-23 e = found-23 (schemasIn m) (typesIn m) (propertiesIn m) (keysIn m) (constraintsIn m) (childrenIn m) (bindingsIn m) (segmentsIn m) (namesIn m) (nodesIn i) (slotsIn i) (itemsIn i) x e
 
-  pub in-24 : x ≡ further (nodeCount (nodesIn i)) (firstFrom (λ s. slot24 (modelOf [] [] (propertiesIn m) [] [] [] [] [] []) (instanceOf [] (slotsIn i) []) s) 0 (slotCount (slotsIn i))) → x ≡ lowestPart (modelIn m) (instanceIn i) rule24
-  unfolding modelIn instanceIn lowestPart
+  pub in-24 : x ≡ further (nodeCount (nodesIn i)) (firstFrom (λ s. slot24 (modelOf [] [] (propertiesIn m) [] [] [] [] [] []) (instanceOf [] (slotsIn i) []) s) 0 (slotCount (slotsIn i))) → x ≡ lowestInstancePlace (modelIn m) (instanceIn i) rule24
+  unfolding modelIn instanceIn lowestInstancePlace
   in-24 e = found-24 (schemasIn m) (typesIn m) (propertiesIn m) (keysIn m) (constraintsIn m) (childrenIn m) (bindingsIn m) (segmentsIn m) (namesIn m) (nodesIn i) (slotsIn i) (itemsIn i) x e
 
-  pub in-25 : x ≡ further (nodeCount (nodesIn i) + slotCount (slotsIn i)) (firstFrom (λ k. item25 (modelOf [] (typesIn m) (propertiesIn m) [] [] [] [] [] []) (instanceOf (nodesIn i) (slotsIn i) (itemsIn i)) k) 0 (itemCount (itemsIn i))) → x ≡ lowestPart (modelIn m) (instanceIn i) rule25
-  unfolding modelIn instanceIn lowestPart
+  pub in-25 : x ≡ further (nodeCount (nodesIn i) + slotCount (slotsIn i)) (firstFrom (λ k. item25 (modelOf [] (typesIn m) (propertiesIn m) [] [] [] [] [] []) (instanceOf (nodesIn i) (slotsIn i) (itemsIn i)) k) 0 (itemCount (itemsIn i))) → x ≡ lowestInstancePlace (modelIn m) (instanceIn i) rule25
+  unfolding modelIn instanceIn lowestInstancePlace
   in-25 e = found-25 (schemasIn m) (typesIn m) (propertiesIn m) (keysIn m) (constraintsIn m) (childrenIn m) (bindingsIn m) (segmentsIn m) (namesIn m) (nodesIn i) (slotsIn i) (itemsIn i) x e
 
-  pub in-26 : x ≡ firstFrom (λ w. node26 (modelOf [] (typesIn m) (propertiesIn m) [] [] [] [] [] []) (instanceOf (nodesIn i) (slotsIn i) (itemsIn i)) w) 0 (nodeCount (nodesIn i)) → x ≡ lowestPart (modelIn m) (instanceIn i) rule26
-  unfolding modelIn instanceIn lowestPart
+  pub in-26 : x ≡ firstFrom (λ w. node26 (modelOf [] (typesIn m) (propertiesIn m) [] [] [] [] [] []) (instanceOf (nodesIn i) (slotsIn i) (itemsIn i)) w) 0 (nodeCount (nodesIn i)) → x ≡ lowestInstancePlace (modelIn m) (instanceIn i) rule26
+  unfolding modelIn instanceIn lowestInstancePlace
   in-26 e = found-26 (schemasIn m) (typesIn m) (propertiesIn m) (keysIn m) (constraintsIn m) (childrenIn m) (bindingsIn m) (segmentsIn m) (namesIn m) (nodesIn i) (slotsIn i) (itemsIn i) x e
 
 -- ---- the rules one after the other
 -- The stages from a rule on, so many of them.
 unfoldable pub stagesFrom : Model → Instance → ℕ → ℕ → List Stage
 stagesFrom m i rule zero = []
-stagesFrom m i rule (suc left) = each rule (placedPart m i (ruleNo rule)) ∷ stagesFrom m i (rule + 1) left
+stagesFrom m i rule (suc left) = each rule (instanceBrokenAt m i (ruleNo rule)) ∷ stagesFrom m i (rule + 1) left
 
 -- The rules below number n are unbroken: the verdict is that of the rules from n on.
 pub record Clear (m : Model) (i : Instance) (o : Answer) (n : ℕ) : Type 0 where
   pub from : 21 ≤ n
   pub most : n ≤ 27
-  pub rest : verdict (parts i) (instanceStages m i) o ≡ verdict (parts i) (stagesFrom m i n (27 - n)) o
+  pub rest : verdict (instancePlaces i) (instanceStages m i) o ≡ verdict (instancePlaces i) (stagesFrom m i n (27 - n)) o
 
 one-more : (n : ℕ) → n < 27 → 27 - n ≡ suc (27 - (n + 1))
 one-more n h = omega arith
@@ -169,19 +169,19 @@ module _ (m : Model) (i : Instance) (o : Answer) where
   unfolding instanceStages stagesFrom ruleNo
   clear-start = record { from = omega arith; most = omega arith; rest = refl }
 
-  module _ (n x : ℕ) (c : Clear m i o n) (h : n < 27) (e : x ≡ lowestPart m i (ruleNo n)) where
+  module _ (n x : ℕ) (c : Clear m i o n) (h : n < 27) (e : x ≡ lowestInstancePlace m i (ruleNo n)) where
     pub clear-next : x ≡ 0 → Clear m i o (n + 1)
-    unfolding stagesFrom lowestPart
+    unfolding stagesFrom lowestInstancePlace
     clear-next z = record {
       from = omega (arith, c .from);
       most = omega arith;
-      rest = c .rest ∙ rw (one-more n h) (sym (stage-next (parts i) n x (placedPart m i (ruleNo n)) (stagesFrom m i (n + 1) (27 - (n + 1))) o _ e z refl));
+      rest = c .rest ∙ rw (one-more n h) (sym (stage-next (instancePlaces i) n x (instanceBrokenAt m i (ruleNo n)) (stagesFrom m i (n + 1) (27 - (n + 1))) o _ e z refl));
     }
 
-    pub clear-broken : (x ≡ 0 → ⊥) → refused n (x - 1) ≡ verdict (parts i) (instanceStages m i) o
-    unfolding stagesFrom lowestPart
-    clear-broken z = stage-hit (parts i) n x (placedPart m i (ruleNo n)) (stagesFrom m i (n + 1) (27 - (n + 1))) o e z ∙ sym (c .rest ∙ rw (one-more n h))
+    pub clear-broken : (x ≡ 0 → ⊥) → refused n (x - 1) ≡ verdict (instancePlaces i) (instanceStages m i) o
+    unfolding stagesFrom lowestInstancePlace
+    clear-broken z = stage-hit (instancePlaces i) n x (instanceBrokenAt m i (ruleNo n)) (stagesFrom m i (n + 1) (27 - (n + 1))) o e z ∙ sym (c .rest ∙ rw (one-more n h))
 
-  pub clear-all : (n : ℕ) → Clear m i o n → 27 ≤ n → o ≡ verdict (parts i) (instanceStages m i) o
+  pub clear-all : (n : ℕ) → Clear m i o n → 27 ≤ n → o ≡ verdict (instancePlaces i) (instanceStages m i) o
   unfolding stagesFrom verdict
   clear-all n c h = let z : 27 - n ≡ 0 = omega arith in sym (c .rest ∙ rw z)

@@ -6,22 +6,22 @@ use mathlib.Core.List.{List, []}
 use lib.Dec.{eqb}
 use Rattle.csdl.specs.Search.{firstFrom}
 use Rattle.csdl.specs.Model.{Model}
-use Rattle.csdl.specs.Instance.{Instance, instanceOf, parts, image20}
-use Rattle.csdl.specs.Conforms.{placedPart, slotOfItem, rule21, rule22, rule23, rule24, rule25, rule26}
-use Rattle.csdl.specs.declared.Part.{Part}
+use Rattle.csdl.specs.Instance.{Instance, instanceOf, instancePlaces, image20}
+use Rattle.csdl.specs.Conforms.{instanceBrokenAt, slotOfItem, rule21, rule22, rule23, rule24, rule25, rule26}
+use Rattle.csdl.specs.declared.InstanceRecord.{InstanceRecord}
 use Rattle.model_image.specs.declared.layout.Layout.{Layout}
 use Rattle.model_image.specs.Laid.{Laid}
 use Rattle.instance_image.specs.Tables.{slotsIn}
-use Rattle.instance_runs.specs.Tables.{Holding}
+use Rattle.instance_runs.specs.Tables.{Tabulates}
 
-unfoldable pub ruleNo : ℕ → Model → Instance → Part → Bool
+unfoldable pub ruleNo : ℕ → Model → Instance → InstanceRecord → Bool
 ruleNo n m i r =
     cond (eqb n 21) (rule21 m i r)
     (cond (eqb n 22) (rule22 m i r) (cond (eqb n 23) (rule23 m i r) (cond (eqb n 24) (rule24 m i r) (cond (eqb n 25) (rule25 m i r) (rule26 m i r)))))
 
 -- The lowest place that breaks the rule: 0 for none, else the place plus 1.
-unfoldable pub lowestPart : Model → Instance → (Model → Instance → Part → Bool) → ℕ
-lowestPart m i rule = firstFrom (placedPart m i rule) 0 (parts i)
+unfoldable pub lowestInstancePlace : Model → Instance → (Model → Instance → InstanceRecord → Bool) → ℕ
+lowestInstancePlace m i rule = firstFrom (instanceBrokenAt m i rule) 0 (instancePlaces i)
 
 -- The layout is that of the model, which keeps rule 1; the instance keeps rule 20.
 pub record Formed (model : List ℕ) (at : Layout) (instance : List ℕ) : Type 0 where
@@ -30,4 +30,4 @@ pub record Formed (model : List ℕ) (at : Layout) (instance : List ℕ) : Type 
 
 -- The array has for each item of the instance the slot whose run has it.
 abbrev pub Owners : List ℕ → List ℕ → Type 0
-Owners instance owners = Holding (λ k. slotOfItem (instanceOf [] (slotsIn instance) []) k) 2048 owners
+Owners instance owners = Tabulates (λ k. slotOfItem (instanceOf [] (slotsIn instance) []) k) 2048 owners

@@ -7,7 +7,7 @@ ghost use Rattle.csdl.specs.Conforms.{instanceAnswer};
 ghost use Rattle.csdl.specs.Verdict.{instanceMeans};
 use csdl::InstanceAnswer;
 use csdl::ModelAnswer;
-use images::check_parts;
+use images::check_20_to_26;
 use model_check::check_rules;
 
 pub fn check_instance(model: &[u8], instance: &[u8]) -> InstanceAnswer
@@ -15,7 +15,7 @@ pub fn check_instance(model: &[u8], instance: &[u8]) -> InstanceAnswer
 {
     let answer = check_rules(model);
     match answer {
-        ModelAnswer::Accepted { segments: _ } => check_parts(model, instance),
+        ModelAnswer::Accepted { segments: _ } => check_20_to_26(model, instance),
         ModelAnswer::Refused { rule, place } => InstanceAnswer::Refused { rule, place },
     }
 }

@@ -6,13 +6,13 @@ ghost use Prim.Native.Nat.{_+_, _≤_, _<_};
 ghost use Rattle.csdl.specs.Search.{firstFrom};
 ghost use Rattle.csdl.specs.Image.{modelIn};
 ghost use Rattle.csdl.specs.Model.{modelOf};
-ghost use Rattle.csdl.specs.Instance.{instanceOf, instanceIn, image20, nodeCount, slotCount, itemCount, parts};
+ghost use Rattle.csdl.specs.Instance.{instanceOf, instanceIn, image20, nodeCount, slotCount, itemCount, instancePlaces};
 ghost use Rattle.csdl.specs.Conforms as rules;
 ghost use Rattle.csdl.specs.Verdict.{verdict, instanceMeans};
 ghost use Rattle.csdl.specs.Verdict.Answer.{accepted};
 ghost use Rattle.model_image.specs.Sized.{Sized};
 ghost use Rattle.instance_runs.specs.Tables as tables;
-ghost use Rattle.instance_check.specs.Stages.{ruleNo, lowestPart, Formed, Owners};
+ghost use Rattle.instance_check.specs.Stages.{ruleNo, lowestInstancePlace, Formed, Owners};
 ghost use Rattle.model_image.specs.Limits.{FewProperties, FewTypes};
 ghost use Rattle.instance_image.specs.Limits.{FewItems, FewNodes, FewSlots};
 use csdl::InstanceAnswer;
@@ -39,7 +39,7 @@ use model_image::layout::types_of;
 // The first place that breaks rule 21: 0 for none, else the place plus 1.
 fn place_21(types: &[u8], properties: &[u8], nodes: &[u8], slots: &[u8], items: &[u8]) -> u16
     requires { ⌜ FewTypes (now types) × FewProperties (now properties) × FewNodes (now nodes) × FewSlots (now slots) × FewItems (now items) ⌝ }
-    ensures { λ r. ⌜ r ≡ firstFrom (rules.placedPart (modelOf [] (now (types .entry)) (now (properties .entry)) [] [] [] [] [] []) (instanceOf (now (nodes .entry)) (now (slots .entry)) (now (items .entry))) rules.rule21) 0 (parts (instanceOf (now (nodes .entry)) (now (slots .entry)) (now (items .entry)))) ⌝ }
+    ensures { λ r. ⌜ r ≡ firstFrom (rules.instanceBrokenAt (modelOf [] (now (types .entry)) (now (properties .entry)) [] [] [] [] [] []) (instanceOf (now (nodes .entry)) (now (slots .entry)) (now (items .entry))) rules.rule21) 0 (instancePlaces (instanceOf (now (nodes .entry)) (now (slots .entry)) (now (items .entry)))) ⌝ }
 {
     let v = first_node_21(types, nodes, slots);
     if v != 0 {
@@ -81,7 +81,7 @@ fn place_25(
     items: &[u8],
     owners: &[u16],
 ) -> u16
-    requires { ⌜ FewTypes (now types) × FewNodes (now nodes) × FewSlots (now slots) × FewItems (now items) × tables.Holding (λ k. rules.slotOfItem (instanceOf [] (now slots) []) k) 2048 (now owners) ⌝ }
+    requires { ⌜ FewTypes (now types) × FewNodes (now nodes) × FewSlots (now slots) × FewItems (now items) × tables.Tabulates (λ k. rules.slotOfItem (instanceOf [] (now slots) []) k) 2048 (now owners) ⌝ }
     ensures { λ r. ⌜ r ≡ tables.further (nodeCount (now (nodes .entry)) + slotCount (now (slots .entry))) (firstFrom (λ k. rules.item25 (modelOf [] (now (types .entry)) (now (properties .entry)) [] [] [] [] [] []) (instanceOf (now (nodes .entry)) (now (slots .entry)) (now (items .entry))) k) 0 (itemCount (now (items .entry)))) ⌝ }
 {
     further(
@@ -93,7 +93,7 @@ fn place_25(
 // Rule 21.
 fn rule_21(model: &[u8], at: Layout, instance: &[u8]) -> u16
     requires { ⌜ Formed (now model) at (now instance) ⌝ }
-    ensures { λ r. ⌜ r ≡ lowestPart (modelIn (now (model .entry))) (instanceIn (now (instance .entry))) rules.rule21 ⌝ }
+    ensures { λ r. ⌜ r ≡ lowestInstancePlace (modelIn (now (model .entry))) (instanceIn (now (instance .entry))) rules.rule21 ⌝ }
 {
     place_21(
         types_of(model, at),
@@ -107,7 +107,7 @@ fn rule_21(model: &[u8], at: Layout, instance: &[u8]) -> u16
 // Rule 22.
 fn rule_22(model: &[u8], at: Layout, instance: &[u8]) -> u16
     requires { ⌜ Formed (now model) at (now instance) ⌝ }
-    ensures { λ r. ⌜ r ≡ lowestPart (modelIn (now (model .entry))) (instanceIn (now (instance .entry))) rules.rule22 ⌝ }
+    ensures { λ r. ⌜ r ≡ lowestInstancePlace (modelIn (now (model .entry))) (instanceIn (now (instance .entry))) rules.rule22 ⌝ }
 {
     first_22(types_of(model, at), nodes_of(instance))
 }
@@ -115,7 +115,7 @@ fn rule_22(model: &[u8], at: Layout, instance: &[u8]) -> u16
 // Rule 23.
 fn rule_23(model: &[u8], at: Layout, instance: &[u8]) -> u16
     requires { ⌜ Formed (now model) at (now instance) ⌝ }
-    ensures { λ r. ⌜ r ≡ lowestPart (modelIn (now (model .entry))) (instanceIn (now (instance .entry))) rules.rule23 ⌝ }
+    ensures { λ r. ⌜ r ≡ lowestInstancePlace (modelIn (now (model .entry))) (instanceIn (now (instance .entry))) rules.rule23 ⌝ }
 {
     first_23(
         types_of(model, at),
@@ -129,7 +129,7 @@ fn rule_23(model: &[u8], at: Layout, instance: &[u8]) -> u16
 // Rule 24.
 fn rule_24(model: &[u8], at: Layout, instance: &[u8]) -> u16
     requires { ⌜ Formed (now model) at (now instance) ⌝ }
-    ensures { λ r. ⌜ r ≡ lowestPart (modelIn (now (model .entry))) (instanceIn (now (instance .entry))) rules.rule24 ⌝ }
+    ensures { λ r. ⌜ r ≡ lowestInstancePlace (modelIn (now (model .entry))) (instanceIn (now (instance .entry))) rules.rule24 ⌝ }
 {
     place_24(
         properties_of(model, at),
@@ -141,7 +141,7 @@ fn rule_24(model: &[u8], at: Layout, instance: &[u8]) -> u16
 // Rule 25.
 fn rule_25(model: &[u8], at: Layout, instance: &[u8], owners: &[u16]) -> u16
     requires { ⌜ Formed (now model) at (now instance) × Owners (now instance) (now owners) ⌝ }
-    ensures { λ r. ⌜ r ≡ lowestPart (modelIn (now (model .entry))) (instanceIn (now (instance .entry))) rules.rule25 ⌝ }
+    ensures { λ r. ⌜ r ≡ lowestInstancePlace (modelIn (now (model .entry))) (instanceIn (now (instance .entry))) rules.rule25 ⌝ }
 {
     place_25(
         types_of(model, at),
@@ -156,7 +156,7 @@ fn rule_25(model: &[u8], at: Layout, instance: &[u8], owners: &[u16]) -> u16
 // Rule 26.
 fn rule_26(model: &[u8], at: Layout, instance: &[u8], owners: &[u16]) -> u16
     requires { ⌜ Formed (now model) at (now instance) × Owners (now instance) (now owners) ⌝ }
-    ensures { λ r. ⌜ r ≡ lowestPart (modelIn (now (model .entry))) (instanceIn (now (instance .entry))) rules.rule26 ⌝ }
+    ensures { λ r. ⌜ r ≡ lowestInstancePlace (modelIn (now (model .entry))) (instanceIn (now (instance .entry))) rules.rule26 ⌝ }
 {
     first_26(
         types_of(model, at),
@@ -171,7 +171,7 @@ fn rule_26(model: &[u8], at: Layout, instance: &[u8], owners: &[u16]) -> u16
 // The lowest place that breaks the rule of the number. `owners` has for each item the slot whose run has it.
 fn lowest(model: &[u8], at: Layout, instance: &[u8], owners: &[u16], rule: u16) -> u16
     requires { ⌜ Formed (now model) at (now instance) × Owners (now instance) (now owners) × (21 ≤ rule) × (rule < 27) ⌝ }
-    ensures { λ r. ⌜ r ≡ lowestPart (modelIn (now (model .entry))) (instanceIn (now (instance .entry))) (ruleNo rule) ⌝ }
+    ensures { λ r. ⌜ r ≡ lowestInstancePlace (modelIn (now (model .entry))) (instanceIn (now (instance .entry))) (ruleNo rule) ⌝ }
 {
     match rule {
         21 => rule_21(model, at, instance),
@@ -186,7 +186,7 @@ fn lowest(model: &[u8], at: Layout, instance: &[u8], owners: &[u16], rule: u16) 
 // Rules 21 to 26 of an instance that keeps rule 20, of a model that keeps rule 1.
 pub fn first_broken(model: &[u8], instance: &[u8]) -> InstanceAnswer
     requires { ⌜ Sized (now model) × (image20 (now instance) ≡ false) ⌝ }
-    ensures { λ r. ⌜ instanceMeans r ≡ verdict (parts (instanceIn (now (instance .entry)))) (rules.instanceStages (modelIn (now (model .entry))) (instanceIn (now (instance .entry)))) (accepted []) ⌝ }
+    ensures { λ r. ⌜ instanceMeans r ≡ verdict (instancePlaces (instanceIn (now (instance .entry)))) (rules.instanceStages (modelIn (now (model .entry))) (instanceIn (now (instance .entry)))) (accepted []) ⌝ }
 {
     let at = layout_of(model);
     let owners = slots_of_items(slots_of(instance));

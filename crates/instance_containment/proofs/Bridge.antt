@@ -1,5 +1,5 @@
 -- Rule 26 by the two arrays is rule 26 of the instance. Assumes nothing.
-use Prim.Native.Nat.{ℕ, zero, suc, _+_, _-_, _≤_, _<_}
+use Prim.Native.Nat.{ℕ, zero, suc, zero-le, _+_, _≤_, _<_}
 use mathlib.Core.Path.{_≡_, refl, sym, ap, ap₂, _∙_}
 use mathlib.Core.Bool.{Bool, true, false, cond, not, _&&_, _||_, and-true, and-false}
 use mathlib.Core.List.{List, []}
@@ -7,15 +7,14 @@ use native.Mathlib.Omega.{arith}
 use lib.Dec.{eqb, ltb, eqb·zero-suc, eqb·suc-suc}
 use lib.ListN.{length, getD, List·getD-eq-default}
 use borrow.Author.Tests.{ltb-true, ltb-false, ne-eqb, le-ltb, lt-ltb}
-use Rattle.csdl.specs.Search.{anyFrom, firstFrom, countFrom}
+use Rattle.csdl.specs.Search.{anyFrom, firstFrom, countFrom, ifFound}
 use Rattle.csdl.specs.Climb.{rounds, reaches}
 use Rattle.csdl.specs.Model.{Model, modelOf, inRun}
 use Rattle.csdl.specs.Find.{integral}
 use Rattle.csdl.specs.Instance.{Instance, instanceOf}
 use Rattle.csdl.specs.Conforms.{isNull, itemProperty, nodeOfItem, nodeOfSlot, holdsItem, holdsNode, node26}
-use Rattle.instance_runs.specs.Tables.{Holding, toTwo}
-use Rattle.instance_values.proofs.Anys.{any-same, count-same, tab-same, first-le}
-use Rattle.instance_values.proofs.Places.{first-same}
+use Rattle.instance_runs.specs.Tables.{Tabulates, toTwo}
+use Rattle.csdl.proofs.Logic.{any-same, count-same, tab-same, first-same, first-le}
 use Rattle.csdl.specs.Conforms.{slotOfItem}
 use Rattle.csdl.specs.Instance.{slotCount, nodeCount}
 use lib.ListN.{set}
@@ -29,14 +28,14 @@ use Rattle.instance_containment.specs.Graph.{heldIf, heldBy, nodeIn, ste
 module _ (s t : ℕ → ℕ → Bool) (n : ℕ) (e : (a b : ℕ) → a < n → b < n → s a b ≡ t a b) where
   rounds-same : (k a : ℕ) → a < n → rounds s n a k ≡ rounds t n a k
   unfolding rounds
-  rounds-same zero a i = tab-same (s a) (t a) n 0 (λ b l h. e a b i (omega arith))
+  rounds-same zero a i = tab-same (s a) (t a) 0 n (λ b l h. e a b i (omega arith))
   rounds-same (suc k) a i =
       rw (rounds-same k a i)
       (tab-same (λ b. getD (rounds t n a k) b false || anyFrom (λ c. getD (rounds t n a k) c false && s c b) 0 n)
-      (λ b. getD (rounds t n a k) b false || anyFrom (λ c. getD (rounds t n a k) c false && t c b) 0 n) n 0
+      (λ b. getD (rounds t n a k) b false || anyFrom (λ c. getD (rounds t n a k) c false && t c b) 0 n) 0 n
       (λ b l h.
       ap (λ (x : Bool). getD (rounds t n a k) b false || x)
-      (any-same (λ c. getD (rounds t n a k) c false && s c b) (λ c. getD (rounds t n a k) c false && t c b) n 0
+      (any-same (λ c. getD (rounds t n a k) c false && s c b) (λ c. getD (rounds t n a k) c false && t c b) 0 n
       (λ c p q. ap (λ (y : Bool). getD (rounds t n a k) c false && y) (e c b (omega arith) (omega arith))))))
 
   pub reaches-same : (a b : ℕ) → a < n → reaches s n a b ≡ reaches t n a b
@@ -67,28 +66,28 @@ module _ (m : Model) (i : Instance) where
     step-same : (v w : ℕ) → w < i .nodes → stepIn from to (i .items) v w ≡ holdsNode m i v w
     unfolding stepIn holdsNode
     step-same v w l =
-        any-same (λ k. eqb (to k) (suc w) && eqb (from k) (suc v)) (λ k. holdsItem m i w k && eqb (nodeOfItem i k) (suc v)) (i .items) 0
+        any-same (λ k. eqb (to k) (suc w) && eqb (from k) (suc v)) (λ k. holdsItem m i w k && eqb (nodeOfItem i k) (suc v)) 0 (i .items)
         (λ k p q. ap₂ _&&_ (holds w k l (omega arith)) (ap (λ (x : ℕ). eqb x (suc v)) (f k (omega arith))))
 
     node-same : (w : ℕ) → w < i .nodes → node26In from to (i .items) (i .nodes) w ≡ node26 m i w
     unfolding node26In node26 timesIn withinIn
     node-same w l =
         ap₂ _||_
-        (ap (λ (x : ℕ). ltb 1 x) (count-same (λ k. eqb (to k) (suc w)) (λ k. holdsItem m i w k) (i .items) 0 (λ k p q. holds w k l (omega arith))))
+        (ap (λ (x : ℕ). ltb 1 x) (count-same (λ k. eqb (to k) (suc w)) (λ k. holdsItem m i w k) 0 (i .items) (λ k p q. holds w k l (omega arith))))
         (reaches-same (λ a b. stepIn from to (i .items) a b) (λ a b. holdsNode m i a b) (i .nodes) (λ a b g h. step-same a b h) w w l)
 
     pub first-26-same : firstFrom (λ w. node26In from to (i .items) (i .nodes) w) 0 (i .nodes) ≡ firstFrom (λ w. node26 m i w) 0 (i .nodes)
     first-26-same =
-        first-same (λ w. node26In from to (i .items) (i .nodes) w) (λ w. node26 m i w) (i .nodes) 0 (λ w p q. node-same w (omega arith))
+        first-same (λ w. node26In from to (i .items) (i .nodes) w) (λ w. node26 m i w) 0 (i .nodes) (λ w p q. node-same w (omega arith))
 
 -- The nodes in whose slots items stand are of the instance.
 pub node-of-slot-le : (i : Instance) (s : ℕ) → nodeOfSlot i s ≤ i .nodes
 unfolding nodeOfSlot
 node-of-slot-le i s =
-    let h : firstFrom (λ v. inRun (i .nodeSlots v) s) 0 (i .nodes) ≤ 0 + i .nodes = first-le (λ v. inRun (i .nodeSlots v) s) (i .nodes) 0 in
+    let h : firstFrom (λ v. inRun (i .nodeSlots v) s) 0 (i .nodes) ≤ 0 + i .nodes = first-le (λ v. inRun (i .nodeSlots v) s) 0 (i .nodes) in
     omega (arith, h)
 
-pub all-le : (g : ℕ → ℕ) (size most : ℕ) (l : List ℕ) → Holding g size l → ((k : ℕ) → g k ≤ most) → (k : ℕ) → getD l k 0 ≤ most
+pub all-le : (g : ℕ → ℕ) (size most : ℕ) (l : List ℕ) → Tabulates g size l → ((k : ℕ) → g k ≤ most) → (k : ℕ) → getD l k 0 ≤ most
 all-le g size most l h b k = go (ltb k size) refl
   where
     go : (t : Bool) → ltb k size ≡ t → getD l k 0 ≤ most
@@ -107,7 +106,7 @@ two-more n = go (ltb 1 n) refl
     go true e = let h : 1 < n = ltb-true 1 n e in lt-ltb 1 (toTwo n) (omega arith) ∙ sym e
     go false e = let h : n ≤ 1 = ltb-false 1 n e in le-ltb 1 (toTwo n) (omega arith) ∙ sym e
 
-pub times-over : (to : ℕ → ℕ) (c : ℕ) (times : List ℕ) → Holding (λ b. toTwo (timesIn to c b)) 256 times → (w : ℕ) → w < 256
+pub times-over : (to : ℕ → ℕ) (c : ℕ) (times : List ℕ) → Tabulates (λ b. toTwo (timesIn to c b)) 256 times → (w : ℕ) → w < 256
     → ltb 1 (getD times w 0) ≡ ltb 1 (timesIn to c w)
 times-over to c times t w l = rw (t .at w l) (two-more (timesIn to c w))
 
@@ -115,7 +114,7 @@ times-over to c times t w l = rw (t .at w l) (two-more (timesIn to c w))
 pub times-run : (to : ℕ → ℕ) (c w : ℕ) → toTwo (timesIn to c w) ≡ toTwo (countFrom (λ u. inRun (heldRun to u) w) 0 c)
 unfolding timesIn
 times-run to c w =
-    ap toTwo (sym (count-same (λ u. inRun (heldRun to u) w) (λ u. eqb (to u) (suc w)) c 0 (λ u p q. run-any (to u) w)))
+    ap toTwo (sym (count-same (λ u. inRun (heldRun to u) w) (λ u. eqb (to u) (suc w)) 0 c (λ u p q. run-any (to u) w)))
 
 pub holder-run : (from to : ℕ → ℕ) (w n i : ℕ) → holderFrom from to w i n ≡ latest (λ u. heldRun to u) (λ u. from u) w i n
 unfolding holderFrom latest
@@ -130,25 +129,37 @@ fill-more f l i x h e all =
     (getD-set-same l i x 0 h ∙ e)
 
 -- The slot of an item is within the array of slots.
-pub slot-below : (slots : List ℕ) (k : ℕ) → length slots ≤ 5120 → slotOfItem (instanceOf [] slots []) k - 1 < 1024
+slot-below : (slots : List ℕ) (k : ℕ) → length slots ≤ 5120 → slotOfItem (instanceOf [] slots []) k ≤ 1024
 unfolding instanceOf slotOfItem
 slot-below slots k h =
     let i = instanceOf [] slots [] in
-    let l : firstFrom (λ s. inRun (i .slotItems s) k) 0 (slotCount slots) ≤ 0 + slotCount slots = first-le (λ s. inRun (i .slotItems s) k) (slotCount slots) 0 in
+    let l : firstFrom (λ s. inRun (i .slotItems s) k) 0 (slotCount slots) ≤ 0 + slotCount slots = first-le (λ s. inRun (i .slotItems s) k) 0 (slotCount slots) in
     omega (arith, l)
+
+-- What is made of a number, if there is one, by what agrees below n.
+found-same : (f g : ℕ → ℕ) (n x : ℕ) → x ≤ n → ((s : ℕ) → s < n → f s ≡ g s) → ifFound 0 f x ≡ ifFound 0 g x
+found-same f g n zero h e = refl
+found-same f g n (suc s) h e = e s (omega arith)
 
 -- The node of an item, by the array of slots and the array of nodes.
 module _ (nodes slots owners holders : List ℕ) (few : length slots ≤ 5120)
-    (o : Holding (λ k. slotOfItem (instanceOf [] slots []) k) 2048 owners) (h : Holding (λ s. nodeOfSlot (instanceOf nodes [] []) s) 1024 holders) where
+    (o : Tabulates (λ k. slotOfItem (instanceOf [] slots []) k) 2048 owners) (h : Tabulates (λ s. nodeOfSlot (instanceOf nodes [] []) s) 1024 holders) where
   pub node-in-same : (k : ℕ) → k < 2048 → nodeIn owners holders k ≡ nodeOfItem (instanceOf nodes slots []) k
   unfolding nodeIn instanceOf slotOfItem nodeOfSlot
-  node-in-same k l = rw (o .at k l) (h .at (slotOfItem (instanceOf [] slots []) k - 1) (slot-below slots k few))
+  node-in-same k l =
+      rw (o .at k l)
+      (found-same (λ s. getD holders s 0) (λ s. nodeOfSlot (instanceOf nodes [] []) s) 1024 (slotOfItem (instanceOf [] slots []) k) (slot-below slots k few) (h .at))
 
   pub node-in-le : (k : ℕ) → nodeIn owners holders k ≤ nodeCount nodes
   unfolding nodeIn instanceOf
-  node-in-le k = all-le (λ s. nodeOfSlot (instanceOf nodes [] []) s) 1024 (nodeCount nodes) holders h (λ s. node-of-slot-le (instanceOf nodes [] []) s) (getD owners k 0 - 1)
+  node-in-le k = go (getD owners k 0)
+    where
+      go : (x : ℕ) → ifFound 0 (λ s. getD holders s 0) x ≤ nodeCount nodes
+      go zero = zero-le
+      go (suc s) =
+          all-le (λ s. nodeOfSlot (instanceOf nodes [] []) s) 1024 (nodeCount nodes) holders h (λ s. node-of-slot-le (instanceOf nodes [] []) s) s
 
--- The node that an item holds, by its property and by the tables that each part reads.
+-- The node that an item holds, by its property and by the tables that each test reads.
 pub held-same-tables : (types properties nodes slots items : List ℕ) (inside : Bool) (p k r : ℕ) → r ≡ heldIf (instanceOf nodes [] items) inside k
     → inside ≡ integral (modelOf [] types properties [] [] [] [] [] []) p
     → p ≡ itemProperty (instanceOf [] slots []) k

@@ -1,4 +1,3 @@
 pub mod Climbing
 pub mod Bridge
-pub mod Closing
 pub mod RowLaws

@@ -13,8 +13,8 @@ use borrow.Author.Tests.{eqb-true, eqb-false, eq-eqb, ne-eqb, ltb-true, ltb-fals
 use mathlib.Core.Logic.{⊎-elim}
 use Rattle.csdl.specs.Search.{anyFrom}
 use Rattle.csdl.proofs.Logic.{not-so, and-cases, or-cases, or-no}
-use Rattle.lookup.specs.Sets.{member, Holds}
-use Rattle.lookup.proofs.SetLaws.{member-none, member-or}
+use Rattle.type_hierarchy.specs.Sets.{member, Members}
+use Rattle.type_hierarchy.proofs.SetLaws.{member-none, member-or}
 use Rattle.instance_runs.proofs.Fills.{zeros}
 use Rattle.instance_containment.specs.Graph.{stepIn}
 use Rattle.instance_containment.specs.Rows.{inRow, withStep, Steps, Passed}
@@ -51,7 +51,7 @@ module _ (rows : List ℕ) (size : length rows ≡ 1024) where
           (λ e. let p = and-cases (eqb to (suc w)) (eqb from (suc v)) e in n v w h l (eqb-true from (suc v) (p .1)) (eqb-true to (suc w) (p .0)))
 
   module _ (from to x : ℕ) (f : 0 < from) (g : from ≤ 256) (t : 0 < to) (u : to ≤ 256)
-      (more : Holds 64 x (λ i. member (getD rows (4 * (from - 1) + (to - 1) / 64) 0) i || eqb ((to - 1) % 64) i)) where
+      (more : Members 64 x (λ i. member (getD rows (4 * (from - 1) + (to - 1) / 64) 0) i || eqb ((to - 1) % 64) i)) where
     same-bit : (v w : ℕ) → 4 * v + w / 64 ≡ 4 * (from - 1) + (to - 1) / 64 → w < 256 → (eqb to (suc w) && eqb from (suc v)) ≡ eqb ((to - 1) % 64) (w % 64)
     same-bit v w e l =
         let z : from ≡ suc v = omega (arith, e, l, f, t, u) in

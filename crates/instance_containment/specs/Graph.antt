@@ -5,9 +5,9 @@ use mathlib.Core.List.{List}
 use mathlib.Core.Bool.{Bool, cond, not, _&&_, _||_}
 use lib.Dec.{eqb, ltb}
 use lib.ListN.{getD}
-use Rattle.csdl.specs.Search.{anyFrom, countFrom, mark}
+use Rattle.csdl.specs.Search.{anyFrom, countFrom, oneIf, ifFound}
 use Rattle.csdl.specs.Climb.{reaches}
-use Rattle.csdl.specs.Tables.{Run}
+use Rattle.csdl.specs.declared.Run.{Run}
 use Rattle.csdl.specs.Model.{Model}
 use Rattle.csdl.specs.Find.{integral}
 use Rattle.csdl.specs.Instance.{Instance}
@@ -23,7 +23,7 @@ heldBy m i k = heldIf i (integral m (itemProperty i k)) k
 
 -- The node in whose slot item k stands, by the slot of each item and the node of each slot.
 unfoldable pub nodeIn : List ℕ → List ℕ → ℕ → ℕ
-nodeIn slots nodes k = getD nodes (getD slots k 0 - 1) 0
+nodeIn slots nodes k = ifFound 0 (λ s. getD nodes s 0) (getD slots k 0)
 
 -- What an array has for each number.
 abbrev pub entry : List ℕ → ℕ → ℕ
@@ -52,4 +52,4 @@ node26In from to c n w = ltb 1 (timesIn to c w) || withinIn from to c n w
 
 -- The node that item k holds, as a run of one place or none.
 abbrev pub heldRun : (ℕ → ℕ) → ℕ → Run
-heldRun to k = record { first = to k - 1; count = mark (not (eqb (to k) 0)) }
+heldRun to k = record { first = to k - 1; count = oneIf (not (eqb (to k) 0)) }

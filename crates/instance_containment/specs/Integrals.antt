@@ -8,8 +8,8 @@ use lib.ListN.{length}
 use Rattle.csdl.specs.Tables.{propertyCount}
 use Rattle.csdl.specs.Model.{modelOf}
 use Rattle.csdl.specs.Find.{integral}
-use Rattle.type_names.specs.Wide.{HoldsWide}
+use Rattle.type_names.specs.Wide.{MembersWide}
 
 pub record Integrals (types properties set : List ℕ) : Type 0 where
   pub size : length set ≡ 8
-  pub is : HoldsWide set 0 (λ p. ltb p (propertyCount properties) && integral (modelOf [] types properties [] [] [] [] [] []) p)
+  pub is : MembersWide set 0 (λ p. ltb p (propertyCount properties) && integral (modelOf [] types properties [] [] [] [] [] []) p)

@@ -6,7 +6,7 @@ use mathlib.Core.List.{List}
 use lib.Dec.{eqb}
 use lib.ListN.{length, getD}
 use Rattle.csdl.specs.Climb.{reaches}
-use Rattle.lookup.specs.Sets.{member}
+use Rattle.type_hierarchy.specs.Sets.{member}
 
 unfoldable pub inRow : List ℕ → ℕ → ℕ → Bool
 inRow rows v w = member (getD rows (4 * v + w / 64) 0) (w % 64)

@@ -2,7 +2,6 @@
 ghost use mathlib.Core.Path.{_≡_};
 ghost use lib.ListN.{getD};
 ghost use Rattle.instance_containment.specs.Graph as graph;
-use model_image::fields::less_one;
 
 // Entry k of an array, or 0 past the end.
 pub fn read_at(array: &[u16], k: u16) -> u16
@@ -19,5 +18,9 @@ pub fn read_at(array: &[u16], k: u16) -> u16
 pub fn node_of(slots: &[u16], nodes: &[u16], k: u16) -> u16
     ensures { λ r. ⌜ r ≡ graph.nodeIn (now (slots .entry)) (now (nodes .entry)) k ⌝ }
 {
-    read_at(nodes, less_one(read_at(slots, k)))
+    let slot = read_at(slots, k);
+    if slot == 0 {
+        return 0;
+    }
+    read_at(nodes, slot - 1)
 }

@@ -13,7 +13,7 @@ ghost use Rattle.csdl.specs.Model.{modelOf};
 ghost use Rattle.csdl.specs.Find as find;
 ghost use Rattle.csdl.specs.Instance.{instanceOf, nodeCount, itemCount};
 ghost use Rattle.csdl.specs.Conforms.{slotOfItem, node26};
-ghost use Rattle.instance_runs.specs.Tables.{Holding, toTwo};
+ghost use Rattle.instance_runs.specs.Tables.{Tabulates, toTwo};
 ghost use Rattle.instance_containment.specs.Graph as graph;
 ghost use Rattle.instance_containment.specs.Integrals.{Integrals};
 ghost use Rattle.model_image.specs.Limits.{FewProperties, FewTypes};
@@ -28,11 +28,11 @@ use instance_runs::runs::nodes_of_slots;
 use instance_runs::runs::put_run;
 use instance_values::rules::is_null;
 use instance_values::rules::item_property;
-use instance_values::rules::mark;
-use lookup::steps::integral;
 use model_image::fields::less_one;
+use model_image::fields::one_if;
 use model_image::properties::property_count;
 use rows::first_by_rows;
+use type_hierarchy::steps::integral;
 use type_names::wide::in_wide;
 use type_names::wide::with_wide;
 
@@ -92,7 +92,7 @@ fn held_nodes(
     items: &[u8],
     owners: &[u16],
 ) -> [u16; 2048]
-    requires { ⌜ FewTypes (now types) × FewProperties (now properties) × FewNodes (now nodes) × FewItems (now items) × Holding (λ k. slotOfItem (instanceOf [] (now slots) []) k) 2048 (now owners) ⌝ }
+    requires { ⌜ FewTypes (now types) × FewProperties (now properties) × FewNodes (now nodes) × FewItems (now items) × Tabulates (λ k. slotOfItem (instanceOf [] (now slots) []) k) 2048 (now owners) ⌝ }
     ensures { λ r. ⌜ ((k : ℕ) → k < itemCount (now (items .entry)) → getD r k 0 ≡ graph.heldBy (modelOf [] (now (types .entry)) (now (properties .entry)) [] [] [] [] [] []) (instanceOf (now (nodes .entry)) (now (slots .entry)) (now (items .entry))) k) ⌝ }
 {
     let integrals = integrals_of(types, properties);
@@ -110,21 +110,21 @@ fn held_nodes(
 
 // For each node how many of the c items hold it, at most 2.
 fn held_times(to: &[u16], c: u16) -> [u16; 256]
-    ensures { λ r. ⌜ Holding (λ w. toTwo (graph.timesIn (graph.entry (now (to .entry))) c w)) 256 r ⌝ }
+    ensures { λ r. ⌜ Tabulates (λ w. toTwo (graph.timesIn (graph.entry (now (to .entry))) c w)) 256 r ⌝ }
 {
     let mut array = [0u16; 256];
     let mut k = c;
     while 0 < k {
         k -= 1;
         let w = read_at(to, k);
-        add_run(&mut array, less_one(w), mark(w != 0));
+        add_run(&mut array, less_one(w), one_if(w != 0));
     }
     array
 }
 
 // For each node the node that holds it, by the first of the c items that does.
 fn holders_of(slots: &[u16], nodes: &[u16], to: &[u16], c: u16) -> [u16; 256]
-    ensures { λ r. ⌜ Holding (λ w. graph.holderFrom (graph.nodeIn (now (slots .entry)) (now (nodes .entry))) (graph.entry (now (to .entry))) w 0 c) 256 r ⌝ }
+    ensures { λ r. ⌜ Tabulates (λ w. graph.holderFrom (graph.nodeIn (now (slots .entry)) (now (nodes .entry))) (graph.entry (now (to .entry))) w 0 c) 256 r ⌝ }
 {
     let mut array = [0u16; 256];
     let mut k = c;
@@ -134,7 +134,7 @@ fn holders_of(slots: &[u16], nodes: &[u16], to: &[u16], c: u16) -> [u16; 256]
         put_run(
             &mut array,
             less_one(w),
-            mark(w != 0),
+            one_if(w != 0),
             node_of(slots, nodes, k),
         );
     }
@@ -213,7 +213,7 @@ pub fn first_26(
     items: &[u8],
     owners: &[u16],
 ) -> u16
-    requires { ⌜ FewTypes (now types) × FewProperties (now properties) × FewNodes (now nodes) × FewSlots (now slots) × FewItems (now items) × Holding (λ k. slotOfItem (instanceOf [] (now slots) []) k) 2048 (now owners) ⌝ }
+    requires { ⌜ FewTypes (now types) × FewProperties (now properties) × FewNodes (now nodes) × FewSlots (now slots) × FewItems (now items) × Tabulates (λ k. slotOfItem (instanceOf [] (now slots) []) k) 2048 (now owners) ⌝ }
     ensures { λ r. ⌜ (r ≡ search.firstFrom (λ w. node26 (modelOf [] (now (types .entry)) (now (properties .entry)) [] [] [] [] [] []) (instanceOf (now (nodes .entry)) (now (slots .entry)) (now (items .entry))) w) 0 (nodeCount (now (nodes .entry)))) × (r ≤ 256) ⌝ }
 {
     let holders = nodes_of_slots(nodes);

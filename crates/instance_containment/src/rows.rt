@@ -10,8 +10,8 @@ ghost use Rattle.instance_containment.specs.Graph.{nodeIn, entry, stepIn
 ghost use Rattle.instance_containment.specs.Rows.{inRow, withStep, Steps, Passed, Through, Closed};
 use crate::arrays::node_of;
 use crate::arrays::read_at;
-use lookup::type_sets::in_set;
-use lookup::type_sets::with_one;
+use type_hierarchy::type_sets::in_set;
+use type_hierarchy::type_sets::with_one;
 
 // Whether w is in row v.
 fn in_row(rows: &[u64], v: u16, w: u16) -> bool

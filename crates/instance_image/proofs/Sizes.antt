@@ -9,7 +9,7 @@ use lib.ListN.{length, length-take, length-drop}
 use borrow.Author.Tests.{ltb-false, not-false, eqb-true}
 use Rattle.packed.specs.Bytes.{between}
 use Rattle.csdl.specs.Image.{header}
-use Rattle.csdl.specs.Instance.{instanceOf, instanceIn, image20, image20a, image20b, image20c, image20d, slotsFrom, itemsFrom, instanceEnd}
+use Rattle.csdl.specs.Instance.{itemForm, instanceOf, instanceIn, image20, image20a, image20b, image20c, image20d, slotsFrom, itemsFrom, instanceEnd}
 
 pub record Sized (image : List ℕ) : Type 0 where
   pub whole : length image ≡ instanceEnd image
@@ -39,8 +39,8 @@ sized image h =
     let n = header image 1 in
     let s = header image 2 in
     let k = header image 3 in
-    let d = or-no (image20a image || image20b image || image20c image) (image20d image) h in
-    let b = or-no (image20a image || image20b image) (image20c image) (d .0) in
+    let d = or-no (image20a image || image20b itemForm image || image20c image) (image20d itemForm image) h in
+    let b = or-no (image20a image || image20b itemForm image) (image20c image) (d .0) in
     let c = or-no (ltb 256 n || ltb 1024 s) (ltb 2048 k) (b .1) in
     let f = or-no (ltb 256 n) (ltb 1024 s) (c .0) in
     let whole : length image ≡ 8 + 4 * n + 5 * s + 4 * k = eqb-true _ _ (not-false _ (d .1)) in

@@ -3,15 +3,10 @@ ghost use mathlib.Core.Path.{_≡_};
 ghost use Prim.Native.Nat.{_≤_, _<_};
 ghost use Rattle.csdl.specs.Instance.{nodeCount, nodeTypeIn, nodeSlotsIn, nodeSpareIn, slotCount, slotPropertyIn, slotStateIn, slotItemsIn, slotSpareIn, itemCount, itemRefIn, itemHandleIn};
 ghost use Rattle.instance_image.specs.Limits.{FewItems, FewNodes, FewSlots};
+use csdl::Run;
 use packed::field;
 use packed::field16;
 use packed::two_fields;
-
-// A run of slots or items: the first, and how many.
-pub struct Run {
-    pub first: u16,
-    pub count: u16,
-}
 
 // How many records the table of nodes has.
 pub fn node_count(nodes: &[u8]) -> u16

@@ -10,20 +10,20 @@ use native.Mathlib.Numerals.{add-one}
 use lib.ListN.{length, getD, set, length-set, replicate, length-replicate}
 use lib.Seq.{getD-set-same, getD-set-other, ext-getD}
 use borrow.Author.Tests.{eqb-true, eqb-false, ltb-true, ltb-false, leb-true, lt-ltb, le-ltb, le-leb}
-use Rattle.csdl.specs.Search.{firstFrom, sumFrom, countFrom, mark, tab}
-use Rattle.csdl.specs.Tables.{Run}
+use Rattle.csdl.specs.Search.{firstFrom, sumFrom, countFrom, oneIf, tab}
+use Rattle.csdl.specs.declared.Run.{Run}
 use Rattle.csdl.specs.Model.{inRun}
 use Rattle.csdl.proofs.Logic.{tab-length, tab-at}
-use Rattle.instance_runs.specs.Tables.{Holding, changed, toTwo}
+use Rattle.instance_runs.specs.Tables.{Tabulates, changed, toTwo}
 
 -- An array that has f at each of its places is the table of f, and the other way round.
 module _ (f : ℕ → ℕ) (n : ℕ) (array : List ℕ) where
-  pub is-table : Holding f n array → array ≡ tab f 0 n
+  pub is-table : Tabulates f n array → array ≡ tab f 0 n
   is-table h =
       ext-getD 0 array (tab f 0 n) (h .size ∙ sym (tab-length f 0 n)) (λ k l. h .at k (omega (arith, h .size)) ∙ sym (tab-at f 0 n k (omega (arith, h .size))))
 
-  pub holding : array ≡ tab f 0 n → Holding f n array
-  holding e = record {
+  pub tabulates : array ≡ tab f 0 n → Tabulates f n array
+  tabulates e = record {
     size = ap (λ (l : List ℕ). length l) e ∙ tab-length f 0 n;
     at = λ k h. ap (λ (l : List ℕ). getD l k 0) e ∙ tab-at f 0 n k h;
   }
@@ -35,7 +35,7 @@ record Changed (g : ℕ → ℕ) (r : Run) (before after : List ℕ) : Type 0 wh
 
 changes : (g : ℕ → ℕ) (r : Run) (before after : List ℕ) → after ≡ changed g r before → Changed g r before after
 unfolding changed
-changes g r before after e = let h = holding _ _ after e in record { size = h .size; at = h .at }
+changes g r before after e = let h = tabulates _ _ after e in record { size = h .size; at = h .at }
 
 -- Two tests that are the same, by what they say.
 ltb-same : (w k l : ℕ) → (w < k → w < l) → (k ≤ w → l ≤ w) → ltb w k ≡ ltb w l
@@ -124,17 +124,17 @@ countIn run n v k = toTwo (countFrom (λ u. inRun (run u) k) v (n - v))
 
 -- What an array of m places holds when the runs from v on are done. u is the next run, the one from a on with b places.
 module _ (run : ℕ → Run) (n m : ℕ) where
-  pub first-none : (v : ℕ) → n ≤ v → Holding (firstIn run n v) m (replicate m 0)
+  pub first-none : (v : ℕ) → n ≤ v → Tabulates (firstIn run n v) m (replicate m 0)
   unfolding firstIn firstFrom
   first-none v h = record { size = length-replicate m 0; at = λ k l. zeros m k ∙ rw (none-yet n v h) }
 
-  pub count-none : (v : ℕ) → n ≤ v → Holding (countIn run n v) m (replicate m 0)
+  pub count-none : (v : ℕ) → n ≤ v → Tabulates (countIn run n v) m (replicate m 0)
   unfolding countIn sumFrom
   count-none v h = record { size = length-replicate m 0; at = λ k l. zeros m k ∙ rw (none-yet n v h) }
 
   module _ (u v a b : ℕ) (e : v ≡ u + 1) (p : a ≡ run u .first) (q : b ≡ run u .count) (before after : List ℕ) where
-    pub first-down : u < n → (x : ℕ) → x ≡ u + 1 → Holding (firstIn run n v) m before → after ≡ changed (λ y. x) (record { first = a; count = b }) before
-        → Holding (firstIn run n u) m after
+    pub first-down : u < n → (x : ℕ) → x ≡ u + 1 → Tabulates (firstIn run n v) m before → after ≡ changed (λ y. x) (record { first = a; count = b }) before
+        → Tabulates (firstIn run n u) m after
     unfolding firstIn firstFrom
     first-down h x g i made =
         let c = changes _ _ before after made in
@@ -143,30 +143,30 @@ module _ (run : ℕ → Run) (n m : ℕ) where
           at = λ k l. c .at k (omega (arith, i .size)) ∙ rw (i .at k l, p, q, one-down n u h, e, g, add-one u);
         }
 
-    pub count-down : u < n → Holding (countIn run n v) m before → after ≡ changed (λ y. toTwo (y + 1)) (record { first = a; count = b }) before
-        → Holding (countIn run n u) m after
+    pub count-down : u < n → Tabulates (countIn run n v) m before → after ≡ changed (λ y. toTwo (y + 1)) (record { first = a; count = b }) before
+        → Tabulates (countIn run n u) m after
     unfolding countIn sumFrom
     count-down h i made =
         let c = changes _ _ before after made in
         record {
           size = c .size ∙ i .size;
-          at = λ k l. c .at k (omega (arith, i .size)) ∙ rw (i .at k l, p, q, one-down n u h, e) (go (inRun (run u) k) (sumFrom (λ w. mark (inRun (run w) k)) (u + 1) (n - (u + 1))));
+          at = λ k l. c .at k (omega (arith, i .size)) ∙ rw (i .at k l, p, q, one-down n u h, e) (go (inRun (run u) k) (sumFrom (λ w. oneIf (inRun (run w) k)) (u + 1) (n - (u + 1))));
         }
       where
-        go : (t : Bool) (s : ℕ) → cond t (toTwo (toTwo s + 1)) (toTwo s) ≡ toTwo (mark t + s)
+        go : (t : Bool) (s : ℕ) → cond t (toTwo (toTwo s + 1)) (toTwo s) ≡ toTwo (oneIf t + s)
         go true s = omega arith
         go false s = omega arith
 
-  pub first-all : (v : ℕ) (f : ℕ → ℕ) (l : List ℕ) → v ≤ 0 → ((k : ℕ) → f k ≡ firstFrom (λ u. inRun (run u) k) 0 n) → Holding (firstIn run n v) m l
-      → Holding f m l
+  pub first-all : (v : ℕ) (f : ℕ → ℕ) (l : List ℕ) → v ≤ 0 → ((k : ℕ) → f k ≡ firstFrom (λ u. inRun (run u) k) 0 n) → Tabulates (firstIn run n v) m l
+      → Tabulates f m l
   unfolding firstIn
   first-all v f l h e i =
       let z : v ≡ 0 = omega arith in
       record { size = i .size; at = λ k b. i .at k b ∙ rw (z, sub-zero n, e k) }
 
   pub count-all : (v : ℕ) (f : ℕ → ℕ) (l : List ℕ) → v ≤ 0 → ((k : ℕ) → f k ≡ toTwo (countFrom (λ u. inRun (run u) k) 0 n))
-      → Holding (countIn run n v) m l
-      → Holding f m l
+      → Tabulates (countIn run n v) m l
+      → Tabulates f m l
   unfolding countIn
   count-all v f l h e i =
       let z : v ≡ 0 = omega arith in
@@ -181,20 +181,20 @@ unfoldable pub latestIn : (ℕ → Run) → (ℕ → ℕ) → ℕ → ℕ → �
 latestIn run value n v k = latest run value k v (n - v)
 
 module _ (run : ℕ → Run) (value : ℕ → ℕ) (n m : ℕ) where
-  pub latest-none : (v : ℕ) → n ≤ v → Holding (latestIn run value n v) m (replicate m 0)
+  pub latest-none : (v : ℕ) → n ≤ v → Tabulates (latestIn run value n v) m (replicate m 0)
   unfolding latestIn latest
   latest-none v h = record { size = length-replicate m 0; at = λ k l. zeros m k ∙ rw (none-yet n v h) }
 
   module _ (u v a b : ℕ) (e : v ≡ u + 1) (p : a ≡ run u .first) (q : b ≡ run u .count) (before after : List ℕ) where
-    pub latest-down : u < n → (x : ℕ) → x ≡ value u → Holding (latestIn run value n v) m before
+    pub latest-down : u < n → (x : ℕ) → x ≡ value u → Tabulates (latestIn run value n v) m before
         → after ≡ changed (λ y. x) (record { first = a; count = b }) before
-        → Holding (latestIn run value n u) m after
+        → Tabulates (latestIn run value n u) m after
     unfolding latestIn latest
     latest-down h x g i made =
         let c = changes _ _ before after made in
         record { size = c .size ∙ i .size; at = λ k l. c .at k (omega (arith, i .size)) ∙ rw (i .at k l, p, q, one-down n u h, e, g) }
 
-  pub latest-all : (v : ℕ) (f : ℕ → ℕ) (l : List ℕ) → v ≤ 0 → ((k : ℕ) → f k ≡ latest run value k 0 n) → Holding (latestIn run value n v) m l → Holding f m l
+  pub latest-all : (v : ℕ) (f : ℕ → ℕ) (l : List ℕ) → v ≤ 0 → ((k : ℕ) → f k ≡ latest run value k 0 n) → Tabulates (latestIn run value n v) m l → Tabulates f m l
   unfolding latestIn
   latest-all v f l h e i =
       let z : v ≡ 0 = omega arith in

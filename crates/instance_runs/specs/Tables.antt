@@ -5,11 +5,11 @@ use mathlib.Core.List.{List}
 use mathlib.Core.Bool.{cond}
 use lib.ListN.{length, getD}
 use Rattle.csdl.specs.Search.{tab}
-use Rattle.csdl.specs.Tables.{Run}
+use Rattle.csdl.specs.declared.Run.{Run}
 use Rattle.csdl.specs.Model.{inRun}
 
 -- The array has f at each of its n places.
-pub record Holding (f : ℕ → ℕ) (n : ℕ) (array : List ℕ) : Type 0 where
+pub record Tabulates (f : ℕ → ℕ) (n : ℕ) (array : List ℕ) : Type 0 where
   pub size : length array ≡ n
   pub at : (k : ℕ) → k < n → getD array k 0 ≡ f k
 

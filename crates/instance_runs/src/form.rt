@@ -7,8 +7,8 @@ ghost use Rattle.csdl.specs.Model.{modelOf};
 ghost use Rattle.csdl.specs.Form.{run4cd};
 ghost use Rattle.csdl.specs.Instance.{instanceOf, slotCount, nodeCount, itemCount};
 ghost use Rattle.csdl.specs.Conforms.{node21a, slot21b, item21c, nodesWith, slotsWith};
-ghost use Rattle.instance_runs.specs.Tables.{Holding, toTwo};
-ghost use Rattle.instance_runs.specs.Parts.{unlikeCount, slotForm};
+ghost use Rattle.instance_runs.specs.Tables.{Tabulates, toTwo};
+ghost use Rattle.instance_runs.specs.Clauses.{unlikeCount, slotForm};
 ghost use Rattle.model_image.specs.Limits.{FewProperties, FewTypes};
 ghost use Rattle.instance_image.specs.Limits.{FewItems, FewNodes, FewSlots};
 use crate::runs::nodes_with;
@@ -78,7 +78,7 @@ fn slot_21(
     uses: &[u16],
     s: u16,
 ) -> bool
-    requires { ⌜ FewProperties (now properties) × FewItems (now items) × (s < 1024) × Holding (λ k. toTwo (nodesWith (instanceOf (now nodes) [] []) k)) 1024 (now uses) ⌝ }
+    requires { ⌜ FewProperties (now properties) × FewItems (now items) × (s < 1024) × Tabulates (λ k. toTwo (nodesWith (instanceOf (now nodes) [] []) k)) 1024 (now uses) ⌝ }
     ensures { λ r. ⌜ r ≡ slot21b (modelOf [] [] (now (properties .entry)) [] [] [] [] [] []) (instanceOf (now (nodes .entry)) (now (slots .entry)) (now (items .entry))) s ⌝ }
 {
     slot_form(properties, slots, items, s) | (uses[s as usize] != 1)
@@ -86,7 +86,7 @@ fn slot_21(
 
 // 21c. `uses` has in how many runs each item stands.
 fn item_21(slots: &[u8], uses: &[u16], k: u16) -> bool
-    requires { ⌜ (k < 2048) × Holding (λ k. toTwo (slotsWith (instanceOf [] (now slots) []) k)) 2048 (now uses) ⌝ }
+    requires { ⌜ (k < 2048) × Tabulates (λ k. toTwo (slotsWith (instanceOf [] (now slots) []) k)) 2048 (now uses) ⌝ }
     ensures { λ r. ⌜ r ≡ item21c (instanceOf [] (now (slots .entry)) []) k ⌝ }
 {
     uses[k as usize] != 1

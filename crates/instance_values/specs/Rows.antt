@@ -5,13 +5,13 @@ use mathlib.Core.Bool.{Bool, true, false, not, _&&_}
 use mathlib.Core.List.{List, []}
 use lib.Dec.{eqb, ltb}
 use lib.ListN.{length}
-use Rattle.csdl.specs.Search.{anyFrom, countFrom, mark}
+use Rattle.csdl.specs.Search.{anyFrom, countFrom, oneIf}
 use Rattle.csdl.specs.Tables.{propertyCount}
 use Rattle.csdl.specs.Model.{modelOf}
 use Rattle.csdl.specs.Find.{isNameOf}
 use Rattle.csdl.specs.Instance.{slotPropertyIn}
-use Rattle.lookup.specs.Sets.{member}
-use Rattle.type_names.specs.Wide.{wide, HoldsWide}
+use Rattle.type_hierarchy.specs.Sets.{member}
+use Rattle.type_names.specs.Wide.{wide, MembersWide}
 
 -- How many slots of a run have property p.
 abbrev pub slotsWith : List ℕ → ℕ → ℕ → ℕ → ℕ
@@ -19,10 +19,10 @@ slotsWith slots first count p = countFrom (λ s. eqb (slotPropertyIn slots s) p)
 
 -- Some of the n properties is not had as often as the set says: once, or not at all.
 abbrev pub unlikeSet : List ℕ → List ℕ → ℕ → ℕ → ℕ → ℕ → Bool
-unlikeSet slots rows from n first count = anyFrom (λ p. not (eqb (slotsWith slots first count p) (mark (wide rows from p)))) 0 n
+unlikeSet slots rows from n first count = anyFrom (λ p. not (eqb (slotsWith slots first count p) (oneIf (wide rows from p)))) 0 n
 
 -- The rows of the types in `done` have the names of these types.
 pub record Rows (types properties names rows : List ℕ) (done : ℕ) : Type 0 where
   pub size : length rows ≡ 512
   pub is : (t : ℕ) → t < 64 → member done t ≡ true
-      → HoldsWide rows (8 * t) (λ p. ltb p (propertyCount properties) && isNameOf (modelOf [] types properties [] [] [] [] [] names) t p)
+      → MembersWide rows (8 * t) (λ p. ltb p (propertyCount properties) && isNameOf (modelOf [] types properties [] [] [] [] [] names) t p)

@@ -7,7 +7,7 @@ ghost use Rattle.csdl.specs.Model.{modelOf};
 ghost use Rattle.csdl.specs.Instance.{instanceOf, slotCount, nodeCount, itemCount};
 ghost use Rattle.csdl.specs.Conforms.{node22, slot24, slotOfItem, itemProperty, isNull, carriesNode, item25of, item25};
 ghost use Rattle.csdl.specs.Find.{ancestorOrSelf};
-ghost use Rattle.instance_runs.specs.Tables.{Holding};
+ghost use Rattle.instance_runs.specs.Tables.{Tabulates};
 ghost use Rattle.instance_values.specs.Lines.{Lines};
 ghost use Rattle.model_image.specs.Limits.{FewTypes};
 ghost use Rattle.instance_image.specs.Limits.{FewItems, FewNodes, FewSlots};
@@ -19,15 +19,14 @@ use instance_image::fields::node_type;
 use instance_image::fields::slot_count;
 use instance_image::fields::slot_property;
 use instance_image::fields::slot_state;
-use lookup::ancestors::with_ancestors;
-use lookup::bases::ancestor_or_self;
-use lookup::kinds::structured;
-use lookup::type_sets::in_set;
-use model_image::fields::less_one;
 use model_image::properties::property_collection;
 use model_image::properties::property_nullable;
 use model_image::properties::property_type_ref;
 use model_image::types::type_abstract;
+use type_hierarchy::ancestors::with_ancestors;
+use type_hierarchy::bases::ancestor_or_self;
+use type_hierarchy::kinds::structured;
+use type_hierarchy::type_sets::in_set;
 
 // Rule 22.
 fn node_22(types: &[u8], nodes: &[u8], v: u16) -> bool
@@ -49,13 +48,6 @@ fn slot_24(properties: &[u8], slots: &[u8], s: u16) -> bool
     ((state == 0) & (collection | !nullable))
         | ((state == 1) & collection)
         | ((state == 2) & !collection)
-}
-
-// 1 for true, 0 for false.
-pub fn mark(x: bool) -> u16
-    ensures { λ r. ⌜ r ≡ search.mark x ⌝ }
-{
-    if x { 1 } else { 0 }
 }
 
 // Whether an item is null.
@@ -132,12 +124,17 @@ fn item_25_of(
     item_ref(items, k) != u
 }
 
-// The property of the slot that has item k. `owners` has for each item the slot whose run has it.
+// The property of the slot that has item k; where no slot has it, a number that no property has. `owners` has for each item the slot
+// whose run has it.
 pub fn item_property(slots: &[u8], owners: &[u16], k: u16) -> u16
-    requires { ⌜ (k < 2048) × Holding (λ k. slotOfItem (instanceOf [] (now slots) []) k) 2048 (now owners) ⌝ }
+    requires { ⌜ (k < 2048) × Tabulates (λ k. slotOfItem (instanceOf [] (now slots) []) k) 2048 (now owners) ⌝ }
     ensures { λ r. ⌜ r ≡ itemProperty (instanceOf [] (now (slots .entry)) []) k ⌝ }
 {
-    slot_property(slots, less_one(owners[k as usize]))
+    let owner = owners[k as usize];
+    if owner == 0 {
+        return 512;
+    }
+    slot_property(slots, owner - 1)
 }
 
 // The first node that breaks rule 22: 0 for none, else its number plus 1.
@@ -181,7 +178,7 @@ pub fn first_25(
     items: &[u8],
     owners: &[u16],
 ) -> u16
-    requires { ⌜ FewTypes (now types) × FewNodes (now nodes) × FewItems (now items) × Holding (λ k. slotOfItem (instanceOf [] (now slots) []) k) 2048 (now owners) ⌝ }
+    requires { ⌜ FewTypes (now types) × FewNodes (now nodes) × FewItems (now items) × Tabulates (λ k. slotOfItem (instanceOf [] (now slots) []) k) 2048 (now owners) ⌝ }
     ensures { λ r. ⌜ (r ≡ search.firstFrom (λ k. item25 (modelOf [] (now (types .entry)) (now (properties .entry)) [] [] [] [] [] []) (instanceOf (now (nodes .entry)) (now (slots .entry)) (now (items .entry))) k) 0 (itemCount (now (items .entry)))) × (r ≤ 2048) ⌝ }
 {
     let lines = lines_of(types);

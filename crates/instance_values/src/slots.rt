@@ -1,5 +1,5 @@
 // Rule 23: the slots of a node are the names of its type, once each. The names of a type are found once and kept as a row of bits; each
-// node is held to the row of its type.
+// node is compared with the row of its type.
 ghost use mathlib.Core.Path.{_≡_};
 ghost use mathlib.Core.Bool.{false};
 ghost use mathlib.Core.List.{[]};
@@ -19,10 +19,10 @@ use instance_image::fields::node_count;
 use instance_image::fields::node_slots;
 use instance_image::fields::node_type;
 use instance_image::fields::slot_property;
-use lookup::type_sets::in_set;
-use lookup::type_sets::with_one;
 use model_image::properties::property_count;
 use name_classes::first_properties::ranked;
+use type_hierarchy::type_sets::in_set;
+use type_hierarchy::type_sets::with_one;
 use type_names::members::names_of;
 use type_names::wide::in_wide;
 use type_names::wide::unlike;

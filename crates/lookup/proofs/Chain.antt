@@ -1,5 +1,5 @@
 -- The index of the properties: filling its chains, and following one. Assumes nothing.
-use Prim.Native.Nat.{ℕ, zero, suc, _+_, _-_, _≤_, _<_}
+use Prim.Native.Nat.{ℕ, suc, _+_, _-_, _≤_, _<_}
 use mathlib.Core.Path.{_≡_, refl, sym, ap, _∙_}
 use mathlib.Core.List.{List}
 use mathlib.Core.Bool.{Bool, true, false}
@@ -14,18 +14,10 @@ use Rattle.packed.specs.Bytes.{same}
 use Rattle.packed.proofs.Laws.{same-sound}
 use Rattle.csdl.specs.Search.{firstFrom}
 use Rattle.csdl.specs.Tables.{propertyCount}
-use Rattle.csdl.proofs.Logic.{first-found, first-none}
+use Rattle.csdl.proofs.Logic.{first-found, first-none, first-same, equal-or-not}
 use Rattle.name_classes.specs.Classes.{nameOf, Ranked}
-use Rattle.name_classes.proofs.Sorting.{even}
 use Rattle.name_classes.proofs.Ranks.{small, same-class, entry-first, ranked-kept}
 use Rattle.lookup.specs.Index.{namedFrom, Indexed}
-
-first-same : (f g : ℕ → Bool) (i n : ℕ) → ((k : ℕ) → k < i + n → f k ≡ g k) → firstFrom f i n ≡ firstFrom g i n
-unfolding firstFrom
-first-same f g i zero e = refl
-first-same f g i (suc n) e =
-    let rest : firstFrom f (i + 1) n ≡ firstFrom g (i + 1) n = first-same f g (i + 1) n (λ k b. e k (omega arith)) in
-    rw (e i (omega arith), rest)
 
 -- ---- filling, of n numbers in the classes that `at` gives
 module _ (at : ℕ → ℕ) (n : ℕ) (old : List ℕ) where
@@ -73,10 +65,10 @@ module _ (at : ℕ → ℕ) (n : ℕ) (old : List ℕ) where
         record {
           size = length-set e (1024 + p) v ∙ f .size;
           places = length-set l b (p + 1) ∙ f .places;
-          first = λ c h. even c b
+          first = λ c h. equal-or-not c b
               (λ z. rw z (getD-set-same l b (p + 1) 0 (rw (f .places) small) ∙ add-one p ∙ sym (chain-here b p low (sym here))))
               (λ z. getD-set-other l b c (p + 1) 0 z ∙ f .first c h ∙ sym (chain-on c p low (λ y. z (sym y ∙ sym here))));
-          next = λ q h k. even q p
+          next = λ q h k. equal-or-not q p
               (λ z. rw z (getD-set-same e (1024 + p) v 0 (rw (f .size) (omega arith)) ∙ f .first b small ∙ rw here))
               (λ z. getD-set-other e (1024 + p) (1024 + q) v 0 (λ y. z (omega (arith, y))) ∙ f .next q (omega (arith, h, z)) k);
           kept = λ i h. getD-set-other e (1024 + p) i v 0 (λ y. omega (arith, y, h)) ∙ f .kept i h;
@@ -107,7 +99,7 @@ pub indexed : (properties names old index later : List ℕ) → propertyCount pr
 indexed properties names old index later few r f = record {
   ranked = ranked-kept (λ p. nameOf properties names p) (propertyCount properties) old index few (f .size) (f .last) (f .kept) r;
   next = λ p h. f .next p (omega arith) h
-      ∙ first-same _ _ (p + 1) (propertyCount properties - (p + 1)) (λ k b. same-class (λ p. nameOf properties names p) (propertyCount properties) (getD old 1536 0) old r k p (omega (arith, b, h)) h);
+      ∙ first-same _ _ (p + 1) (propertyCount properties - (p + 1)) (λ k a b. same-class (λ p. nameOf properties names p) (propertyCount properties) (getD old 1536 0) old r k p (omega (arith, b, h)) h);
 }
 
 -- The entry of a property, as the code reads it.

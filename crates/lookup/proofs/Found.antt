@@ -10,10 +10,10 @@ use borrow.Author.Tests.{ltb-true, ltb-false}
 use Rattle.csdl.specs.Tables.{typeBase, typeCount, propertyCount, propertyOwner}
 use Rattle.csdl.specs.Model.{modelOf}
 use Rattle.csdl.specs.Find.{find, own, declares}
-use Rattle.lookup.specs.AncestorSets.{meets}
-use Rattle.lookup.specs.Near.{leftAt, only}
+use Rattle.type_hierarchy.specs.AncestorSets.{meets}
+use Rattle.type_hierarchy.specs.Near.{leftAt, only}
 use Rattle.lookup.specs.Index.{namedFrom, Indexed}
-use Rattle.lookup.proofs.Near.{meets-left}
+use Rattle.type_hierarchy.proofs.Near.{meets-left}
 use Rattle.lookup.proofs.Looking.{Looking, on-start, looking-start, looking-end, looking-nearer, looking-farther}
 
 module _ (types properties names name index : List ℕ) (x : Indexed properties names index) (few : propertyCount properties ≤ 512) (t a : ℕ) (e : a ≡ namedFrom properties names name 0) where

@@ -1,13 +1,3 @@
-pub mod Climb
-pub mod Near
 pub mod Chain
 pub mod Looking
-pub mod Frame
-pub mod Climbing
-pub mod Past
 pub mod Found
-pub mod SetLaws
-pub mod Tables
-pub mod AncestorSets
-pub mod Owners
-pub mod Reaching

@@ -14,9 +14,9 @@ use Rattle.csdl.specs.Search.{anyFrom}
 use Rattle.csdl.specs.Tables.{propertyCount, propertyOwner}
 use Rattle.csdl.proofs.Logic.{none-any}
 use Rattle.name_classes.specs.Classes.{nameOf}
-use Rattle.lookup.specs.Near.{leftAt, only}
+use Rattle.type_hierarchy.specs.Near.{leftAt, only}
 use Rattle.lookup.specs.Index.{namedFrom, Indexed}
-use Rattle.lookup.proofs.Near.{Near, near-start, near-nearer, near-farther, near-reach}
+use Rattle.type_hierarchy.proofs.Near.{Near, near-start, near-nearer, near-farther, near-reach}
 use Rattle.lookup.proofs.Chain.{Reached, reached, ended, goes-on}
 
 -- How many numbers below n are left from the one that a chain is at.

@@ -4,15 +4,15 @@ ghost use mathlib.Core.List.{[]};
 ghost use Prim.Native.Nat.{_≤_, _<_};
 ghost use Rattle.csdl.specs.Model.{modelOf};
 ghost use Rattle.csdl.specs.Find as find;
-ghost use Rattle.lookup.specs.AncestorSets.{setsOf};
+ghost use Rattle.type_hierarchy.specs.AncestorSets.{setsOf};
 ghost use Rattle.lookup.specs.Index.{namedFrom, Indexed};
 ghost use Rattle.model_image.specs.Limits.{FewProperties, FewTypes};
 use crate::index::first_named;
 use crate::index::next_alike;
-use crate::nearness::nearness_of;
-use crate::type_sets::in_set;
 use model_image::properties::property_owner;
 use model_image::types::type_count;
+use type_hierarchy::nearness::nearness_of;
+use type_hierarchy::type_sets::in_set;
 
 // What a name that may have several properties means at t: of these the one whose owner the climb from t meets first, with most types left. How
 // near each type is to t is found once. `first` is the first property of the name.

@@ -13,6 +13,13 @@ use Rattle.csdl.specs.Search.{flat, tab}
 use Rattle.csdl.specs.Verdict.{bytesOf}
 use Rattle.model_check.specs.Written.{codeOf, codeBytes, Written}
 
+-- The two bytes of a code are those of its 16 low bits.
+pub high-of : (x : ℕ) → x / 256 % 256 ≡ highByte (x % 65536)
+high-of x = omega arith
+
+pub low-of : (x : ℕ) → x / 1 % 256 ≡ lowByte (x % 65536)
+low-of x = omega arith
+
 pub written-start : (codes out : List ℕ) → Written codes 0 out out
 written-start codes out = record { same-length = refl; high = λ g h. absurd (omega arith); low = λ g h. absurd (omega arith); rest = λ j h. refl }
 

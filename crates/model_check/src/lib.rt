@@ -17,7 +17,6 @@ use crate::resolution::write_resolution;
 use csdl::ModelAnswer;
 use lookup::index::index_of;
 use model_image::image::bad_image;
-use model_image::image::header;
 use model_image::layout::Layout;
 use model_image::layout::layout_of;
 use model_image::layout::names_of;
@@ -38,7 +37,8 @@ use model_rules::lowest_16;
 use model_rules::lowest_17;
 use model_rules::lowest_18;
 use model_rules::lowest_19;
-use model_rules::places::placed;
+use model_rules::places::place_found;
+use packed::number_at;
 use rules_segments::unresolved::first_14;
 
 // The lowest place that breaks the rule of the number, where the rules before it are unbroken: 0 for none, else the place plus 1. Rule 14 keeps the
@@ -60,7 +60,7 @@ fn lowest(image: &[u8], at: Layout, index: &[u16], codes: &mut [u32], stage: u16
         11 => lowest_11(image, at, index),
         12 => lowest_12(image, at),
         13 => lowest_13(image, at),
-        14 => placed(at.segments_place, first_14(image, at, index, codes)),
+        14 => place_found(at.segments_place, first_14(image, at, index, codes)),
         15 => lowest_15(image, at, index, codes),
         16 => lowest_16(image, at, codes),
         17 => lowest_17(image, at, codes),
@@ -113,7 +113,7 @@ pub fn check_model(image: &[u8], resolution: &mut [u8]) -> ModelAnswer
     if bad_image(image) {
         return ModelAnswer::Refused { rule: 1, place: 0 };
     }
-    let n = header(image, 8);
+    let n = number_at(image, 8);
     if resolution.len() < 2 * (n as usize) {
         return ModelAnswer::Refused { rule: 2, place: 0 };
     }

@@ -4,8 +4,7 @@ ghost use mathlib.Core.List.{_++_};
 ghost use Prim.Native.Nat.{_*_, _≤_};
 ghost use lib.ListN.{length, drop};
 ghost use Rattle.model_check.specs.Written.{codeBytes};
-use packed::high_byte;
-use packed::low_byte;
+use packed::byte_of;
 use path_resolution::codes::code_at;
 
 // The codes of the first n segments; the bytes after them stay.
@@ -15,10 +14,10 @@ pub fn write_resolution(codes: &[u32], n: u16, out: &mut [u8])
 {
     let mut g: u16 = 0;
     while g < n {
-        let code = (code_at(codes, g) % 65536) as u16;
+        let code = code_at(codes, g);
         let at = 2 * (g as usize);
-        out[at] = high_byte(code);
-        out[at + 1] = low_byte(code);
+        out[at] = byte_of(code, 1);
+        out[at + 1] = byte_of(code, 0);
         g += 1;
     }
 }

@@ -3,8 +3,8 @@ ghost use mathlib.Core.Path.{_≡_};
 ghost use Prim.Native.Nat.{_≤_, _<_};
 ghost use Rattle.csdl.specs.Tables.{bindingChild, bindingPath, bindingTarget, bindingTargetPath, bindingSpare, bindingCount};
 ghost use Rattle.model_image.specs.Limits.{FewBindings};
-use crate::fields::Run;
 use crate::fields::path_in;
+use csdl::Run;
 use packed::field16;
 
 // How many records the table has.

@@ -1,8 +1,10 @@
 // Names and paths as fields of a record, and the bytes of a name.
 ghost use mathlib.Core.Path.{_≡_};
 ghost use Prim.Native.Nat.{_+_, _-_, _<_, _≤_};
+ghost use Rattle.csdl.specs.Search.{oneIf};
 ghost use Rattle.packed.specs.Field.{fieldOf};
 ghost use Rattle.packed.specs.Bytes.{part};
+use csdl::Run;
 use packed::part_of;
 use packed::two_fields;
 
@@ -10,12 +12,6 @@ use packed::two_fields;
 pub struct Name {
     pub start: u16,
     pub size: u16,
-}
-
-// The first segment of a path, and how many; count 0 means absent.
-pub struct Run {
-    pub first: u16,
-    pub count: u16,
 }
 
 // The name field at a bit offset, start and length read at once.
@@ -44,9 +40,14 @@ pub fn path_in(table: &[u8], at: u32) -> Run
 pub fn text_of(names: &[u8], n: Name) -> &[u8]
     ensures { λ r. ⌜ now r ≡ part (now (names .entry)) (n .start) (n .size) ⌝ }
 {
-    let start = n.start;
-    let size = n.size;
-    part_of(names, start, size)
+    part_of(names, n.start as u32, n.size as u32)
+}
+
+// 1 for true, 0 for false.
+pub fn one_if(b: bool) -> u16
+    ensures { λ r. ⌜ r ≡ oneIf b ⌝ }
+{
+    if b { 1 } else { 0 }
 }
 
 // The number of an answer that is 0 for none, else a number plus 1; 0 also for none.

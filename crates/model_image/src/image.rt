@@ -1,95 +1,109 @@
 // The header of a model image, where its parts begin, and rules 1 and 2.
 ghost use mathlib.Core.Path.{_≡_};
-ghost use Prim.Native.Nat.{_<_};
+ghost use Prim.Native.Nat.{_+_, _*_, _≤_};
 ghost use Rattle.csdl.specs.Image as images;
-use packed::field16;
+ghost use Rattle.model_image.specs.Counted.{countsIn, startsBy, unlimited};
+use csdl::VERSION;
+use packed::number_at;
 
-// Number k of the header.
-pub fn header(image: &[u8], k: u16) -> u16
-    ensures { λ r. ⌜ r ≡ images.header (now (image .entry)) k ⌝ }
-{
-    field16(image, 16 * (k as u32), 16)
+// The counts of the header.
+pub struct Counts {
+    pub schemas: u16,
+    pub types: u16,
+    pub properties: u16,
+    pub keys: u16,
+    pub constraints: u16,
+    pub children: u16,
+    pub bindings: u16,
+    pub segments: u16,
+    pub names: u16,
 }
 
-// Where each part begins.
-pub fn types_from(image: &[u8]) -> u32
-    ensures { λ r. ⌜ (r ≡ images.typesFrom (now (image .entry))) × (r < 400000) ⌝ }
+pub fn counts_of(image: &[u8]) -> Counts
+    ensures { λ r. ⌜ r ≡ countsIn (now (image .entry)) ⌝ }
 {
-    20 + 5 * (header(image, 1) as u32)
+    Counts {
+        schemas: number_at(image, 1),
+        types: number_at(image, 2),
+        properties: number_at(image, 3),
+        keys: number_at(image, 4),
+        constraints: number_at(image, 5),
+        children: number_at(image, 6),
+        bindings: number_at(image, 7),
+        segments: number_at(image, 8),
+        names: number_at(image, 9),
+    }
 }
 
-pub fn properties_from(image: &[u8]) -> u32
-    ensures { λ r. ⌜ (r ≡ images.propertiesFrom (now (image .entry))) × (r < 800000) ⌝ }
-{
-    types_from(image) + 6 * (header(image, 2) as u32)
+// The byte at which each part begins, after the schemas at byte 20, and the end of the last.
+pub struct Starts {
+    pub types: u32,
+    pub properties: u32,
+    pub keys: u32,
+    pub constraints: u32,
+    pub children: u32,
+    pub bindings: u32,
+    pub segments: u32,
+    pub names: u32,
+    pub end: u32,
 }
 
-pub fn keys_from(image: &[u8]) -> u32
-    ensures { λ r. ⌜ (r ≡ images.keysFrom (now (image .entry))) × (r < 1300000) ⌝ }
+// The byte after `count` records of `size` bytes from byte `at` on.
+fn after(at: u32, size: u32, count: u16) -> u32
+    requires { ⌜ (at ≤ 4000000) × (size ≤ 7) ⌝ }
+    ensures { λ r. ⌜ (r ≡ at + size * count) × (r ≤ at + 458745) ⌝ }
 {
-    properties_from(image) + 7 * (header(image, 3) as u32)
+    at + size * (count as u32)
 }
 
-pub fn constraints_from(image: &[u8]) -> u32
-    ensures { λ r. ⌜ (r ≡ images.constraintsFrom (now (image .entry))) × (r < 1700000) ⌝ }
+pub fn starts_of(n: Counts) -> Starts
+    ensures { λ r. ⌜ r ≡ startsBy n ⌝ }
 {
-    keys_from(image) + 6 * (header(image, 4) as u32)
-}
-
-pub fn children_from(image: &[u8]) -> u32
-    ensures { λ r. ⌜ (r ≡ images.childrenFrom (now (image .entry))) × (r < 2100000) ⌝ }
-{
-    constraints_from(image) + 5 * (header(image, 5) as u32)
-}
-
-pub fn bindings_from(image: &[u8]) -> u32
-    ensures { λ r. ⌜ (r ≡ images.bindingsFrom (now (image .entry))) × (r < 2400000) ⌝ }
-{
-    children_from(image) + 4 * (header(image, 6) as u32)
-}
-
-pub fn segments_from(image: &[u8]) -> u32
-    ensures { λ r. ⌜ (r ≡ images.segmentsFrom (now (image .entry))) × (r < 2800000) ⌝ }
-{
-    bindings_from(image) + 6 * (header(image, 7) as u32)
-}
-
-pub fn names_from(image: &[u8]) -> u32
-    ensures { λ r. ⌜ (r ≡ images.namesFrom (now (image .entry))) × (r < 3000000) ⌝ }
-{
-    segments_from(image) + 3 * (header(image, 8) as u32)
-}
-
-// Where the last part ends.
-pub fn image_end(image: &[u8]) -> u32
-    ensures { λ r. ⌜ (r ≡ images.imageEnd (now (image .entry))) × (r < 3100000) ⌝ }
-{
-    names_from(image) + (header(image, 9) as u32)
+    let types = after(20, 5, n.schemas);
+    let properties = after(types, 6, n.types);
+    let keys = after(properties, 7, n.properties);
+    let constraints = after(keys, 6, n.keys);
+    let children = after(constraints, 5, n.constraints);
+    let bindings = after(children, 4, n.children);
+    let segments = after(bindings, 6, n.bindings);
+    let names = after(segments, 3, n.segments);
+    Starts {
+        types: types,
+        properties: properties,
+        keys: keys,
+        constraints: constraints,
+        children: children,
+        bindings: bindings,
+        segments: segments,
+        names: names,
+        end: names + n.names as u32,
+    }
 }
 
 // 1c: a count is beyond its limit.
-fn bad_counts(image: &[u8]) -> bool
-    ensures { λ r. ⌜ r ≡ images.image1c (now (image .entry)) ⌝ }
+fn bad_counts(n: Counts) -> bool
+    ensures { λ r. ⌜ r ≡ unlimited n ⌝ }
 {
-    let schemas = header(image, 1);
-    (schemas == 0)
-        | (16 < schemas)
-        | (64 < header(image, 2))
-        | (512 < header(image, 3))
-        | (128 < header(image, 4))
-        | (64 < header(image, 5))
-        | (64 < header(image, 6))
-        | (128 < header(image, 7))
-        | (1024 < header(image, 8))
-        | (4096 < header(image, 9))
+    (n.schemas == 0)
+        | (16 < n.schemas)
+        | (64 < n.types)
+        | (512 < n.properties)
+        | (128 < n.keys)
+        | (64 < n.constraints)
+        | (64 < n.children)
+        | (128 < n.bindings)
+        | (1024 < n.segments)
+        | (4096 < n.names)
 }
 
 // Rule 1.
 pub fn bad_image(image: &[u8]) -> bool
     ensures { λ r. ⌜ r ≡ images.image1 (now (image .entry)) ⌝ }
 {
+    let n = counts_of(image);
+    let end = starts_of(n).end;
     (image.len() < 20)
-        | (header(image, 0) != 0x0402)
-        | bad_counts(image)
-        | (image.len() != (image_end(image) as usize))
+        | (number_at(image, 0) != VERSION)
+        | bad_counts(n)
+        | (image.len() != (end as usize))
 }

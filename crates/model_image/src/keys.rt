@@ -4,9 +4,9 @@ ghost use Prim.Native.Nat.{_≤_, _<_};
 ghost use Rattle.csdl.specs.Tables.{keyOwner, keyPath, keyAlias, keySpare, keyCount};
 ghost use Rattle.model_image.specs.Limits.{FewKeys};
 use crate::fields::Name;
-use crate::fields::Run;
 use crate::fields::name_in;
 use crate::fields::path_in;
+use csdl::Run;
 use packed::field16;
 
 // How many records the table has.

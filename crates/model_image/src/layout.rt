@@ -4,8 +4,10 @@ ghost use Rattle.model_image.specs.Laid as laid;
 ghost use Rattle.model_image.specs.Laid.{Laid, layoutOf, recordBy};
 ghost use Rattle.model_image.specs.Limits.{FewSchemas, FewTypes, FewProperties, FewKeys, FewConstraints, FewChildren, FewBindings, FewSegments};
 ghost use Rattle.model_image.specs.Sized.{Sized};
-use crate::image::header;
+use crate::image::counts_of;
+use crate::image::starts_of;
 use csdl::Record;
+use packed::part_of;
 
 // The byte at which each table begins; the place of each table's first record, and the number of places.
 pub struct Layout {
@@ -32,45 +34,31 @@ pub fn layout_of(image: &[u8]) -> Layout
     requires { ⌜ Sized (now image) ⌝ }
     ensures { λ r. ⌜ Laid (now (image .entry)) r × (r ≡ layoutOf (now (image .entry))) ⌝ }
 {
-    let schema_count = header(image, 1);
-    let type_count = header(image, 2);
-    let property_count = header(image, 3);
-    let key_count = header(image, 4);
-    let constraint_count = header(image, 5);
-    let child_count = header(image, 6);
-    let binding_count = header(image, 7);
-    let segment_count = header(image, 8);
-    let types = 20 + 5 * (schema_count as u32);
-    let properties = types + 6 * (type_count as u32);
-    let keys = properties + 7 * (property_count as u32);
-    let constraints = keys + 6 * (key_count as u32);
-    let children = constraints + 5 * (constraint_count as u32);
-    let bindings = children + 4 * (child_count as u32);
-    let segments = bindings + 6 * (binding_count as u32);
-    let names = segments + 3 * (segment_count as u32);
-    let properties_place = schema_count + type_count;
-    let keys_place = properties_place + property_count;
-    let constraints_place = keys_place + key_count;
-    let children_place = constraints_place + constraint_count;
-    let bindings_place = children_place + child_count;
-    let segments_place = bindings_place + binding_count;
+    let n = counts_of(image);
+    let from = starts_of(n);
+    let properties_place = n.schemas + n.types;
+    let keys_place = properties_place + n.properties;
+    let constraints_place = keys_place + n.keys;
+    let children_place = constraints_place + n.constraints;
+    let bindings_place = children_place + n.children;
+    let segments_place = bindings_place + n.bindings;
     Layout {
-        types: types,
-        properties: properties,
-        keys: keys,
-        constraints: constraints,
-        children: children,
-        bindings: bindings,
-        segments: segments,
-        names: names,
-        types_place: schema_count,
+        types: from.types,
+        properties: from.properties,
+        keys: from.keys,
+        constraints: from.constraints,
+        children: from.children,
+        bindings: from.bindings,
+        segments: from.segments,
+        names: from.names,
+        types_place: n.schemas,
         properties_place: properties_place,
         keys_place: keys_place,
         constraints_place: constraints_place,
         children_place: children_place,
         bindings_place: bindings_place,
         segments_place: segments_place,
-        places: segments_place + segment_count,
+        places: segments_place + n.segments,
     }
 }
 
@@ -79,72 +67,56 @@ pub fn schemas_of(image: &[u8], at: Layout) -> &[u8]
     requires { ⌜ Laid (now image) at ⌝ }
     ensures { λ r. ⌜ (now r ≡ laid.schemasIn (now (image .entry))) × FewSchemas (now r) ⌝ }
 {
-    let from = 20;
-    let to = at.types as usize;
-    &image[from..to]
+    part_of(image, 20, at.types - 20)
 }
 
 pub fn types_of(image: &[u8], at: Layout) -> &[u8]
     requires { ⌜ Laid (now image) at ⌝ }
     ensures { λ r. ⌜ (now r ≡ laid.typesIn (now (image .entry))) × FewTypes (now r) ⌝ }
 {
-    let from = at.types as usize;
-    let to = at.properties as usize;
-    &image[from..to]
+    part_of(image, at.types, at.properties - at.types)
 }
 
 pub fn properties_of(image: &[u8], at: Layout) -> &[u8]
     requires { ⌜ Laid (now image) at ⌝ }
     ensures { λ r. ⌜ (now r ≡ laid.propertiesIn (now (image .entry))) × FewProperties (now r) ⌝ }
 {
-    let from = at.properties as usize;
-    let to = at.keys as usize;
-    &image[from..to]
+    part_of(image, at.properties, at.keys - at.properties)
 }
 
 pub fn keys_of(image: &[u8], at: Layout) -> &[u8]
     requires { ⌜ Laid (now image) at ⌝ }
     ensures { λ r. ⌜ (now r ≡ laid.keysIn (now (image .entry))) × FewKeys (now r) ⌝ }
 {
-    let from = at.keys as usize;
-    let to = at.constraints as usize;
-    &image[from..to]
+    part_of(image, at.keys, at.constraints - at.keys)
 }
 
 pub fn constraints_of(image: &[u8], at: Layout) -> &[u8]
     requires { ⌜ Laid (now image) at ⌝ }
     ensures { λ r. ⌜ (now r ≡ laid.constraintsIn (now (image .entry))) × FewConstraints (now r) ⌝ }
 {
-    let from = at.constraints as usize;
-    let to = at.children as usize;
-    &image[from..to]
+    part_of(image, at.constraints, at.children - at.constraints)
 }
 
 pub fn children_of(image: &[u8], at: Layout) -> &[u8]
     requires { ⌜ Laid (now image) at ⌝ }
     ensures { λ r. ⌜ (now r ≡ laid.childrenIn (now (image .entry))) × FewChildren (now r) ⌝ }
 {
-    let from = at.children as usize;
-    let to = at.bindings as usize;
-    &image[from..to]
+    part_of(image, at.children, at.bindings - at.children)
 }
 
 pub fn bindings_of(image: &[u8], at: Layout) -> &[u8]
     requires { ⌜ Laid (now image) at ⌝ }
     ensures { λ r. ⌜ (now r ≡ laid.bindingsIn (now (image .entry))) × FewBindings (now r) ⌝ }
 {
-    let from = at.bindings as usize;
-    let to = at.segments as usize;
-    &image[from..to]
+    part_of(image, at.bindings, at.segments - at.bindings)
 }
 
 pub fn segments_of(image: &[u8], at: Layout) -> &[u8]
     requires { ⌜ Laid (now image) at ⌝ }
     ensures { λ r. ⌜ (now r ≡ laid.segmentsIn (now (image .entry))) × FewSegments (now r) ⌝ }
 {
-    let from = at.segments as usize;
-    let to = at.names as usize;
-    &image[from..to]
+    part_of(image, at.segments, at.names - at.segments)
 }
 
 pub fn names_of(image: &[u8], at: Layout) -> &[u8]

@@ -4,9 +4,9 @@ ghost use Prim.Native.Nat.{_≤_, _<_};
 ghost use Rattle.csdl.specs.Tables.{propertyOwner, propertyNavigation, propertyCollection, propertyNullable, propertyContains, propertyTypeRef, propertyName, propertyPartner, propertySpare, propertyCount};
 ghost use Rattle.model_image.specs.Limits.{FewProperties};
 use crate::fields::Name;
-use crate::fields::Run;
 use crate::fields::name_in;
 use crate::fields::path_in;
+use csdl::Run;
 use packed::field16;
 use packed::flag;
 

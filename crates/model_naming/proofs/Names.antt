@@ -14,12 +14,17 @@ use Rattle.csdl.specs.Verdict.{verdict}
 use Rattle.csdl.specs.Naming.{noName, nameHeld, recordName, nameOfRecord}
 use Rattle.csdl.specs.declared.Record.{Record}
 use Rattle.csdl.specs.declared.Record.the-variants.{OfSchema, OfType, OfProperty, OfKey, OfConstraint, OfChild, OfBinding, OfSegment, Nowhere}
-use Rattle.packed.proofs.Laws.{field-past}
+use Rattle.packed.proofs.Laws.{field-lt, field-past}
 use Rattle.model_image.proofs.Parts.{layout, counts}
 use Rattle.model_rules.specs.Stages.{formed}
 use Rattle.model_rules.proofs.Order.{name-formed}
 use Rattle.model_rules.proofs.Tables.{record-cases}
 use Rattle.model_naming.specs.Named.{nameAt, nameStart, nameSize}
+
+-- Wherever the counts say that the name bytes begin, they begin before byte 4,000,000.
+pub names-below : (image : List ℕ) → namesFrom image < 4000000
+names-below image =
+    omega (arith, field-lt image 16 16, field-lt image 32 16, field-lt image 48 16, field-lt image 64 16, field-lt image 80 16, field-lt image 96 16, field-lt image 112 16, field-lt image 128 16)
 
 -- A type past the table has no name.
 module _ (types : List ℕ) (t : ℕ) (few : length types ≤ 384) (past : 64 ≤ t) where

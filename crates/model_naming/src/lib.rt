@@ -6,7 +6,9 @@ ghost use Rattle.packed.specs.Bytes.{part};
 ghost use Rattle.csdl.specs.Naming.{nameOfRecord};
 ghost use Rattle.model_naming.specs.Named.{nameStart, nameSize};
 use held::record_name;
-use model_image::image::names_from;
+use model_image::image::counts_of;
+use model_image::image::starts_of;
+use packed::part_of;
 
 // Where a name stands in the image; a size of 0 is no name.
 pub struct NamePlace {
@@ -18,27 +20,13 @@ pub struct NamePlace {
 pub fn name_place(image: &[u8], place: u32) -> NamePlace
     ensures { λ r. ⌜ (r .start ≡ nameStart (now (image .entry)) place) × (r .size ≡ nameSize (now (image .entry)) place) ⌝ }
 {
-    let from = names_from(image);
+    let from = starts_of(counts_of(image)).names;
     let name = record_name(image, place);
+    let start = from + name.start as u32;
     NamePlace {
-        start: from + name.start as u32,
+        start: start,
         size: name.size,
     }
-}
-
-// The `size` bytes from byte `start` on, or as many as there are.
-fn cut(image: &[u8], start: u32, size: u16) -> &[u8]
-    ensures { λ r. ⌜ now r ≡ part (now (image .entry)) start size ⌝ }
-{
-    let a = start as usize;
-    if image.len() <= a {
-        return &image[..0];
-    }
-    let e = a + size as usize;
-    if image.len() <= e {
-        return &image[a..];
-    }
-    &image[a..e]
 }
 
 // The name of the record at a place, as the part of the image that `name_place` gives; no bytes where there is none.
@@ -47,5 +35,5 @@ pub fn name_record(image: &[u8], place: u32) -> &[u8]
     ensures { λ r. ⌜ now r ≡ nameOfRecord (now (image .entry)) place ⌝ }
 {
     let name = name_place(image, place);
-    cut(image, name.start, name.size)
+    part_of(image, name.start, name.size as u32)
 }

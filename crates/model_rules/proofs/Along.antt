@@ -9,7 +9,7 @@ use Rattle.csdl.specs.Model.{Model, modelOf}
 use Rattle.csdl.specs.Model.Table.{segment-table}
 use Rattle.csdl.specs.Image.{modelIn}
 use Rattle.csdl.specs.Form.{rule4}
-use Rattle.csdl.specs.Path.{pathOf, holders, holding, pathsHolding}
+use Rattle.csdl.specs.Path.{pathOf, holders, kindPathsWith, pathsWith}
 use Rattle.csdl.specs.Paths.{segment13, segment14, rule13, rule14}
 use Rattle.rules_segments.specs.Kept.{Resolvable}
 use Rattle.rules_segments.proofs.Resolving.{resolvable}
@@ -22,7 +22,7 @@ use Rattle.model_image.specs.Laid.{LaidOut, propertiesIn, keysIn, constraintsIn
 
 module _ (image : List ℕ) {pr ke co bi sg : List ℕ} (p : pr ≡ propertiesIn image) (k : ke ≡ keysIn image) (c : co ≡ constraintsIn image) (b : bi ≡ bindingsIn image) (s : sg ≡ segmentsIn image) where
   segments-13 : firstFrom (λ g. segment13 (modelOf [] [] pr ke co [] bi sg []) g) 0 (segmentCount sg) ≡ firstFrom (λ g. segment13 (modelIn image) g) 0 (modelIn image .segments)
-  unfolding modelIn modelOf segment13 pathsHolding sumOf holding holders pathOf
+  unfolding modelIn modelOf segment13 pathsWith sumOf kindPathsWith holders pathOf
   segments-13 = rw (p, k, c, b, s)
 
   pub lowest-13 : {at : Layout} (l : LaidOut image at) {r n : ℕ} → n ≡ firstFrom (λ g. segment13 (modelOf [] [] pr ke co [] bi sg []) g) 0 (segmentCount sg) → r ≡ shifted (at .«segments_place») n

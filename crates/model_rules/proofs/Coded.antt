@@ -1,30 +1,32 @@
 -- Rules 15 to 19 by the codes of all segments, at the tables that they read, as the rules of the model. Assumes nothing.
-use Prim.Native.Nat.{ℕ, zero, suc, _+_, _≤_, _<_}
-use mathlib.Core.Bool.{Bool, cond}
+use Prim.Native.Nat.{ℕ, _≤_, _<_}
+use mathlib.Core.Bool.{Bool}
 use mathlib.Core.Path.{_≡_, refl, _∙_}
 use mathlib.Core.List.{List, []}
 use native.Mathlib.Omega.{arith}
 use Rattle.packed.proofs.Laws.{field-lt}
 use Rattle.csdl.specs.Search.{firstFrom}
 use Rattle.csdl.specs.Tables.{propertyCount, keyCount, constraintCount, bindingCount}
-use Rattle.csdl.specs.Model.{Model, modelOf}
+use Rattle.csdl.specs.Model.{modelOf}
 use Rattle.csdl.specs.Image.{modelIn}
 use Rattle.csdl.specs.Find.{ofKind, find, own, declares, ancestorOrSelf, ancestor, top, complexStep, containStep, hasKey}
-use Rattle.csdl.specs.Path.{Kind, segmentAt, pathOf, startOf}
-use Rattle.csdl.specs.Path.Kind.{partner, key, dependent, principal, binding, target}
-use Rattle.csdl.specs.Paths.{key15, constraint16, property17, binding19, keyType, keyStep, keyEnd, keyName, key15b, key15g, constraintStep, sameShape, bothComplex, nonContainment, binding19d, targetStep}
+use Rattle.csdl.specs.Path.{segmentAt, pathOf, startOf}
+use Rattle.csdl.specs.declared.PathKind.{PathKind}
+use Rattle.csdl.specs.declared.PathKind.the-variants.{Partner, Key, Dependent, Principal, Binding, Target}
+use Rattle.csdl.specs.Paths.{key15, constraint16, property17, binding19, keyType, keyStep, keyEnd, keyName, key15b, key15g, constraintStep, sameShape, bothComplex, otherShape, otherNullable, nonContainment, binding19d, targetStep}
+use Rattle.csdl.proofs.Logic.{first-same}
 use Rattle.path_resolution.specs.Resolution.{codeTo, codeEnd}
 use Rattle.path_resolution.specs.Coded.{Coded}
 use Rattle.path_steps.specs.Steps.{stepTest}
 use Rattle.rules_keys.specs.Keys.{keyCodes, keyCoded}
-use Rattle.rules_keys.specs.Constraints.{otherShape, otherNullable, constraintEnds, constraintCodes, constraintFails, constraintCoded}
+use Rattle.rules_keys.specs.Constraints.{constraintEnds, constraintCodes, constraintFails, constraintCoded}
 use Rattle.rules_keys.proofs.Walks.{key-coded, constraint-coded}
 use Rattle.rules_bindings.specs.Partners.{partnerLast, partnerCodes, otherPartner, containedPartner, otherContains, sharedContainment, partnerEnds, partnerCoded}
 use Rattle.rules_bindings.specs.Bindings.{bindingCodes, targetCodes, endsApart, bindingCoded}
 use Rattle.rules_bindings.proofs.PartnerPaths.{partner-coded}
 use Rattle.rules_bindings.proofs.BindingPaths.{binding-coded}
 use Rattle.model_image.specs.declared.layout.Layout.{Layout}
-use Rattle.model_image.specs.Laid.{LaidOut, schemasIn, typesIn, propertiesIn, keysIn, constraintsIn, childrenIn, bindingsIn, segmentsIn, namesIn}
+use Rattle.model_image.specs.Laid.{LaidOut, typesIn, propertiesIn, keysIn, constraintsIn, childrenIn, bindingsIn, segmentsIn, namesIn}
 
 -- Unfolds the rules as far as the fields that they read.
 unfoldable fields : Unit {0}
@@ -49,44 +51,39 @@ module _ (image codes : List ℕ) (k : ℕ) where
   binding-frame = refl
 
 -- a path's count is a field of 4 bits
-short : (image : List ℕ) (w : Kind) (r : ℕ) → pathOf (modelIn image) w r .count < 16
+short : (image : List ℕ) (w : PathKind) (r : ℕ) → pathOf (modelIn image) w r .count < 16
 unfolding modelIn modelOf pathOf
-short image partner r = field-lt (propertiesIn image) _ 4
-short image key r = field-lt (keysIn image) _ 4
-short image dependent r = field-lt (constraintsIn image) _ 4
-short image principal r = field-lt (constraintsIn image) _ 4
-short image binding r = field-lt (bindingsIn image) _ 4
-short image target r = field-lt (bindingsIn image) _ 4
+short image Partner r = field-lt (propertiesIn image) _ 4
+short image Key r = field-lt (keysIn image) _ 4
+short image Dependent r = field-lt (constraintsIn image) _ 4
+short image Principal r = field-lt (constraintsIn image) _ 4
+short image Binding r = field-lt (bindingsIn image) _ 4
+short image Target r = field-lt (bindingsIn image) _ 4
 
 few : {image : List ℕ} {at : Layout} → LaidOut image at → modelIn image .properties ≤ 32768
 few l = omega (arith, l .places, l .places-most)
 
 -- The same tests below n give the same search.
-from-same : (f g : ℕ → Bool) (i n : ℕ) → ((k : ℕ) → i ≤ k → k < i + n → f k ≡ g k) → firstFrom f i n ≡ firstFrom g i n
-unfolding firstFrom
-from-same f g i zero e = refl
-from-same f g i (suc n) e = rw (e i (omega arith) (omega arith), from-same f g (i + 1) n (λ k a b. e k (omega arith) (omega arith)))
-
-first-same : {r : ℕ} (f g : ℕ → Bool) (n : ℕ) → ((k : ℕ) → k < n → f k ≡ g k) → r ≡ firstFrom f 0 n → r ≡ firstFrom g 0 n
-first-same f g n e q = q ∙ from-same f g 0 n (λ k a b. e k (omega arith))
+from-same : {r : ℕ} (f g : ℕ → Bool) (n : ℕ) → ((k : ℕ) → k < n → f k ≡ g k) → r ≡ firstFrom f 0 n → r ≡ firstFrom g 0 n
+from-same f g n e q = q ∙ first-same f g 0 n (λ k a b. e k (omega arith))
 
 module _ {image : List ℕ} {at : Layout} (l : LaidOut image at) {codes : List ℕ} (coded : Coded (modelIn image) codes) {r : ℕ} where
   pub keys-15 : r ≡ firstFrom (λ k. keyCoded (modelOf [] (typesIn image) (propertiesIn image) (keysIn image) [] [] [] (segmentsIn image) (namesIn image)) codes k) 0 (keyCount (keysIn image))
       → r ≡ firstFrom (λ k. key15 (modelIn image) k) 0 (modelIn image .keys)
   unfolding modelIn modelOf
-  keys-15 = first-same _ _ (modelIn image .keys) (λ k h. key-frame image codes k ∙ key-coded (modelIn image) codes coded (few l) (short image) k h)
+  keys-15 = from-same _ _ (modelIn image .keys) (λ k h. key-frame image codes k ∙ key-coded (modelIn image) codes coded (few l) (short image) k h)
 
   pub constraints-16 : r ≡ firstFrom (λ k. constraintCoded (modelOf [] (typesIn image) (propertiesIn image) [] (constraintsIn image) [] [] [] []) codes k) 0 (constraintCount (constraintsIn image))
       → r ≡ firstFrom (λ k. constraint16 (modelIn image) k) 0 (modelIn image .constraints)
   unfolding modelIn modelOf
-  constraints-16 = first-same _ _ (modelIn image .constraints) (λ k h. constraint-frame image codes k ∙ constraint-coded (modelIn image) codes coded (few l) (short image) k h)
+  constraints-16 = from-same _ _ (modelIn image .constraints) (λ k h. constraint-frame image codes k ∙ constraint-coded (modelIn image) codes coded (few l) (short image) k h)
 
   pub properties-17 : r ≡ firstFrom (λ k. partnerCoded (modelOf [] (typesIn image) (propertiesIn image) [] [] [] [] [] []) codes k) 0 (propertyCount (propertiesIn image))
       → r ≡ firstFrom (λ k. property17 (modelIn image) k) 0 (modelIn image .properties)
   unfolding modelIn modelOf
-  properties-17 = first-same _ _ (modelIn image .properties) (λ k h. partner-frame image codes k ∙ partner-coded (modelIn image) codes coded (few l) (short image) k h)
+  properties-17 = from-same _ _ (modelIn image .properties) (λ k h. partner-frame image codes k ∙ partner-coded (modelIn image) codes coded (few l) (short image) k h)
 
   pub bindings-19 : r ≡ firstFrom (λ k. bindingCoded (modelOf [] (typesIn image) (propertiesIn image) [] [] (childrenIn image) (bindingsIn image) (segmentsIn image) (namesIn image)) codes k) 0 (bindingCount (bindingsIn image))
       → r ≡ firstFrom (λ k. binding19 (modelIn image) k) 0 (modelIn image .bindings)
   unfolding modelIn modelOf
-  bindings-19 = first-same _ _ (modelIn image .bindings) (λ k h. binding-frame image codes k ∙ binding-coded (modelIn image) codes coded (few l) (short image) k h)
+  bindings-19 = from-same _ _ (modelIn image .bindings) (λ k h. binding-frame image codes k ∙ binding-coded (modelIn image) codes coded (few l) (short image) k h)

@@ -8,7 +8,7 @@ use Rattle.csdl.specs.Search.{firstFrom, orElse}
 use Rattle.csdl.specs.Model.{Model, places, recordAt, Table, firstPlace, on}
 use Rattle.csdl.specs.Model.Table.{schema-table, type-table, property-table, key-table, constraint-table, child-table, binding-table, segment-table}
 use Rattle.csdl.specs.Image.{modelIn}
-use Rattle.csdl.specs.Verdict.{placed}
+use Rattle.csdl.specs.Verdict.{brokenAt}
 use Rattle.csdl.specs.declared.Record.{Record}
 use Rattle.model_rules.specs.Shifted.{shifted}
 use Rattle.model_rules.specs.Stages.{lowestPlace}
@@ -49,12 +49,12 @@ module _ {image : List ℕ} {at : Layout} (l : LaidOut image at) where
 
   -- the record at a place, as the loop over the places asks it
   module _ (rule : Model → Record → Bool) where
-    pub asked : {rec : Record} {r : Bool} (p : ℕ) → rec ≡ recordBy at p → r ≡ rule (modelIn image) rec → r ≡ placed (modelIn image) rule p
+    pub asked : {rec : Record} {r : Bool} (p : ℕ) → rec ≡ recordBy at p → r ≡ rule (modelIn image) rec → r ≡ brokenAt (modelIn image) rule p
     asked p e g = g ∙ ap (λ x. rule (modelIn image) x) (e ∙ record-in l p)
 
-    pub of-all : {n r : ℕ} → n ≡ at .places → r ≡ firstFrom (placed (modelIn image) rule) 0 n → r ≡ lowestPlace (modelIn image) rule
+    pub of-all : {n r : ℕ} → n ≡ at .places → r ≡ firstFrom (brokenAt (modelIn image) rule) 0 n → r ≡ lowestPlace (modelIn image) rule
     unfolding lowestPlace
-    of-all e g = g ∙ ap (λ k. firstFrom (placed (modelIn image) rule) 0 k) (e ∙ l .places)
+    of-all e g = g ∙ ap (λ k. firstFrom (brokenAt (modelIn image) rule) 0 k) (e ∙ l .places)
 
 -- The first of two searches that found something.
 pub none-else : (a b : ℕ) → a ≡ 0 → b ≡ orElse a b

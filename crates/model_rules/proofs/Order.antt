@@ -12,7 +12,7 @@ use Rattle.csdl.specs.Model.{Model, places, recordAt}
 use Rattle.csdl.specs.Form.{rule3, rule4, rule5}
 use Rattle.csdl.specs.Paths.{rule19}
 use Rattle.csdl.specs.declared.Record.{Record}
-use Rattle.csdl.specs.Verdict.{Answer, placed, refuse, verdict, formStages, modelStages, modelVerdict, modelMeans}
+use Rattle.csdl.specs.Verdict.{Answer, brokenAt, refuse, verdict, formStages, modelStages, modelVerdict, modelMeans}
 use Rattle.csdl.specs.Verdict.Answer.{accepted, refused}
 use Rattle.csdl.specs.Naming.{noName, ifAccepted}
 use Rattle.csdl.specs.declared.ModelAnswer.{ModelAnswer}
@@ -81,19 +81,10 @@ module _ (m : Model) where
   judged-all (Accepted s) j = sym (model-stages m _ ∙ others-decide m _ 17 (omega arith) (j .1) ∙ stages-end m _ 20 ∙ rw (j .0))
   judged-all (Refused rule place) j = sym (j (accepted (m .segments ∷ [])))
 
-  -- what an answer that was matched says
-  pub if-accepted : (n : ℕ) {s : ℕ} (r : ModelAnswer) → Judged m n r → r ≡ Accepted s → (s ≡ m .segments) × Clear m n
-  unfolding Judged
-  if-accepted n r j e = rw e at j
-
-  pub if-refused : (n k : ℕ) {rule place : ℕ} (r : ModelAnswer) → Judged m n r → r ≡ Refused rule place → Judged m k r
-  unfolding Judged
-  if-refused n k r j e = rw e (rw e at j)
-
   -- a rule that is unbroken, in the words of the definitions
   pub clear-kept : (rule : Model → Record → Bool) → lowestPlace m rule ≡ 0 → Kept m rule
   unfolding lowestPlace
-  clear-kept rule e place h = first-none (placed m rule) 0 (places m) e place (omega arith) (omega arith)
+  clear-kept rule e place h = first-none (brokenAt m rule) 0 (places m) e place (omega arith) (omega arith)
 
 -- Rules 3 to 5 unbroken, as the code asks them.
 pub formed-by : (m : Model) {a b c : ℕ} → a ≡ lowestPlace m rule3 → b ≡ lowestPlace m rule4 → c ≡ lowestPlace m rule5
@@ -105,7 +96,7 @@ formed-by m e f g = rw (e, f, g)
 pub name-formed : (m : Model) (held : Name) → ifAccepted (verdict (places m) (formStages m) (accepted [])) held ≡ cond (formed m) held noName
 unfolding formed verdict lowestPlace
 name-formed m held =
-    three (firstFrom (placed m rule3) 0 (places m)) (firstFrom (placed m rule4) 0 (places m)) (firstFrom (placed m rule5) 0 (places m))
+    three (firstFrom (brokenAt m rule3) 0 (places m)) (firstFrom (brokenAt m rule4) 0 (places m)) (firstFrom (brokenAt m rule5) 0 (places m))
   where
     three : (a b c : ℕ) → ifAccepted (refuse 3 a (refuse 4 b (refuse 5 c (accepted [])))) held ≡ cond (eqb a 0 && eqb b 0 && eqb c 0) held noName
     three zero zero zero = refl

@@ -9,7 +9,7 @@ use Rattle.csdl.specs.Form.{rule3, rule4, rule5, rule6, rule7}
 use Rattle.csdl.specs.Types.{rule8, rule9}
 use Rattle.csdl.specs.Properties.{rule10, rule11, rule12}
 use Rattle.csdl.specs.Paths.{rule13, rule14, rule15, rule16, rule17, rule18, rule19}
-use Rattle.csdl.specs.Verdict.{Answer, placed, modelVerdict}
+use Rattle.csdl.specs.Verdict.{Answer, brokenAt, modelVerdict}
 use Rattle.csdl.specs.Verdict.Answer.{refused}
 use Rattle.csdl.specs.declared.ModelAnswer.{ModelAnswer}
 use Rattle.csdl.specs.declared.ModelAnswer.the-variants.{Accepted, Refused}
@@ -34,7 +34,7 @@ ruleNo n m r =
 
 -- The lowest place that breaks the rule: 0 for none, else the place plus 1.
 unfoldable pub lowestPlace : Model → (Model → Record → Bool) → ℕ
-lowestPlace m rule = firstFrom (placed m rule) 0 (places m)
+lowestPlace m rule = firstFrom (brokenAt m rule) 0 (places m)
 
 -- Rules 3 to 5 are unbroken at every place.
 unfoldable pub formed : Model → Bool

@@ -19,7 +19,7 @@ ghost use Rattle.model_rules.specs.Stages.{lowestPlace};
 ghost use Rattle.model_image.specs.Laid.{Laid};
 ghost use Rattle.rules_segments.specs.Indexes.{IndexIn};
 ghost use Rattle.model_image.specs.Limits.{FewTypes, FewProperties};
-use crate::places::placed;
+use crate::places::place_found;
 use model_image::layout::Layout;
 use model_image::layout::bindings_of;
 use model_image::layout::children_of;
@@ -40,6 +40,7 @@ use rules_fields::numbers::rule_4;
 use rules_fields::spare::rule_3;
 use rules_keys::constraints::first_16;
 use rules_keys::keys::first_15;
+use rules_names::names::identifier_limits;
 use rules_names::names::rule_5;
 use rules_names::repeats::first_child_7;
 use rules_names::repeats::first_type_7;
@@ -50,6 +51,7 @@ use rules_segments::cover::first_13;
 use rules_types::properties::first_10;
 use rules_types::types::first_8;
 use rules_types::types::first_9;
+use type_hierarchy::ancestors::all_ancestors;
 
 // Rule 3, of every record.
 pub fn lowest_3(image: &[u8], at: Layout) -> u16
@@ -91,10 +93,12 @@ pub fn lowest_5(image: &[u8], at: Layout) -> u16
     ensures { λ r. ⌜ r ≡ lowestPlace (modelIn (now (image .entry))) rule5 ⌝ }
 {
     let n = at.places;
+    let mut limits = [1u16; 4096];
+    identifier_limits(names_of(image, at), &mut limits);
     let mut place: u16 = 0;
     while place < n {
         let rec = record_at(at, place);
-        if rule_5(image, at, rec) {
+        if rule_5(image, at, &limits, rec) {
             return place + 1;
         }
         place += 1;
@@ -122,7 +126,7 @@ pub fn lowest_6(image: &[u8], at: Layout) -> u16
     requires { ⌜ Laid (now image) at ⌝ }
     ensures { λ r. ⌜ r ≡ lowestPlace (modelIn (now (image .entry))) rule6 ⌝ }
 {
-    placed(0, first_6(schemas_of(image, at), names_of(image, at)))
+    place_found(0, first_6(schemas_of(image, at), names_of(image, at)))
 }
 
 // Rule 7, of types and children.
@@ -132,8 +136,8 @@ pub fn lowest_7(image: &[u8], at: Layout) -> u16
 {
     let names = names_of(image, at);
     earlier(
-        placed(at.types_place, first_type_7(types_of(image, at), names)),
-        placed(
+        place_found(at.types_place, first_type_7(types_of(image, at), names)),
+        place_found(
             at.children_place,
             first_child_7(children_of(image, at), names),
         ),
@@ -145,7 +149,7 @@ pub fn lowest_8(image: &[u8], at: Layout) -> u16
     requires { ⌜ Laid (now image) at ⌝ }
     ensures { λ r. ⌜ r ≡ lowestPlace (modelIn (now (image .entry))) rule8 ⌝ }
 {
-    placed(at.types_place, first_8(types_of(image, at)))
+    place_found(at.types_place, first_8(types_of(image, at)))
 }
 
 // Rule 9, of types.
@@ -153,7 +157,7 @@ pub fn lowest_9(image: &[u8], at: Layout) -> u16
     requires { ⌜ Laid (now image) at ⌝ }
     ensures { λ r. ⌜ r ≡ lowestPlace (modelIn (now (image .entry))) rule9 ⌝ }
 {
-    placed(at.types_place, first_9(types_of(image, at)))
+    place_found(at.types_place, first_9(types_of(image, at)))
 }
 
 // Rule 10, of properties.
@@ -161,7 +165,7 @@ pub fn lowest_10(image: &[u8], at: Layout) -> u16
     requires { ⌜ Laid (now image) at ⌝ }
     ensures { λ r. ⌜ r ≡ lowestPlace (modelIn (now (image .entry))) rule10 ⌝ }
 {
-    placed(
+    place_found(
         at.properties_place,
         first_10(types_of(image, at), properties_of(image, at)),
     )
@@ -173,9 +177,10 @@ fn first_11(types: &[u8], properties: &[u8], names: &[u8], index: &[u16]) -> u16
     ensures { λ r. ⌜ r ≡ firstFrom (λ p. property11 (modelOf [] (now (types .entry)) (now (properties .entry)) [] [] [] [] [] (now (names .entry))) p) 0 (propertyCount (now (properties .entry))) ⌝ }
 {
     let n = property_count(properties);
+    let ancestors = all_ancestors(types);
     let mut p: u16 = 0;
     while p < n {
-        if property_11(types, properties, names, index, p) {
+        if property_11(types, properties, names, index, &ancestors, p) {
             return p + 1;
         }
         p += 1;
@@ -188,7 +193,7 @@ pub fn lowest_11(image: &[u8], at: Layout, index: &[u16]) -> u16
     requires { ⌜ Laid (now image) at × IndexIn (now image) (now index) ⌝ }
     ensures { λ r. ⌜ r ≡ lowestPlace (modelIn (now (image .entry))) rule11 ⌝ }
 {
-    placed(
+    place_found(
         at.properties_place,
         first_11(
             types_of(image, at),
@@ -204,7 +209,7 @@ pub fn lowest_12(image: &[u8], at: Layout) -> u16
     requires { ⌜ Laid (now image) at ⌝ }
     ensures { λ r. ⌜ r ≡ lowestPlace (modelIn (now (image .entry))) rule12 ⌝ }
 {
-    placed(
+    place_found(
         at.types_place,
         first_12(types_of(image, at), properties_of(image, at)),
     )
@@ -215,7 +220,7 @@ pub fn lowest_13(image: &[u8], at: Layout) -> u16
     requires { ⌜ Laid (now image) at ⌝ }
     ensures { λ r. ⌜ r ≡ lowestPlace (modelIn (now (image .entry))) rule13 ⌝ }
 {
-    placed(
+    place_found(
         at.segments_place,
         first_13(
             properties_of(image, at),
@@ -232,7 +237,7 @@ pub fn lowest_15(image: &[u8], at: Layout, index: &[u16], codes: &[u32]) -> u16
     requires { ⌜ Laid (now image) at × IndexIn (now image) (now index) × Coded (modelIn (now image)) (now codes) ⌝ }
     ensures { λ r. ⌜ r ≡ lowestPlace (modelIn (now (image .entry))) rule15 ⌝ }
 {
-    placed(
+    place_found(
         at.keys_place,
         first_15(
             types_of(image, at),
@@ -251,7 +256,7 @@ pub fn lowest_16(image: &[u8], at: Layout, codes: &[u32]) -> u16
     requires { ⌜ Laid (now image) at × Coded (modelIn (now image)) (now codes) ⌝ }
     ensures { λ r. ⌜ r ≡ lowestPlace (modelIn (now (image .entry))) rule16 ⌝ }
 {
-    placed(
+    place_found(
         at.constraints_place,
         first_16(
             types_of(image, at),
@@ -267,7 +272,7 @@ pub fn lowest_17(image: &[u8], at: Layout, codes: &[u32]) -> u16
     requires { ⌜ Laid (now image) at × Coded (modelIn (now image)) (now codes) ⌝ }
     ensures { λ r. ⌜ r ≡ lowestPlace (modelIn (now (image .entry))) rule17 ⌝ }
 {
-    placed(
+    place_found(
         at.properties_place,
         first_17(types_of(image, at), properties_of(image, at), codes),
     )
@@ -281,11 +286,11 @@ pub fn lowest_18(image: &[u8], at: Layout) -> u16
     let types = types_of(image, at);
     let keys = keys_of(image, at);
     earlier(
-        placed(
+        place_found(
             at.properties_place,
             first_property_18(types, properties_of(image, at), keys),
         ),
-        placed(
+        place_found(
             at.children_place,
             first_child_18(types, keys, children_of(image, at)),
         ),
@@ -297,7 +302,7 @@ pub fn lowest_19(image: &[u8], at: Layout, codes: &[u32]) -> u16
     requires { ⌜ Laid (now image) at × Coded (modelIn (now image)) (now codes) ⌝ }
     ensures { λ r. ⌜ r ≡ lowestPlace (modelIn (now (image .entry))) rule19 ⌝ }
 {
-    placed(
+    place_found(
         at.bindings_place,
         first_19(
             types_of(image, at),

@@ -1,14 +1,13 @@
 -- Laws of the order of byte strings. Assumes nothing.
-use Prim.Native.Nat.{ℕ, _+_, _≤_, _<_}
+use Prim.Native.Nat.{ℕ, suc, _≤_, _<_}
 use mathlib.Core.Path.{_≡_, refl, sym, _∙_}
 use mathlib.Core.List.{List, [], _∷_}
 use mathlib.Core.Bool.{Bool, true, false, cond, false≢true}
-use native.Mathlib.Numerals.{add-one}
 use native.Mathlib.Omega.{arith}
-use lib.Dec.{ltb}
-use lib.ListN.{length, getD, drop, drop-of-length-le}
-use lib.Seq.{drop-cons}
-use borrow.Author.Tests.{ltb-true, ltb-false, lt-ltb, le-ltb}
+use lib.Dec.{eqb, ltb, leb, leb·suc-zero, leb·suc-suc}
+use lib.ListN.{length, getD}
+use borrow.Author.Tests.{eqb-true, eqb-false, ltb-true, ltb-false, lt-ltb, le-ltb, le-leb, lt-leb}
+use Rattle.packed.specs.Bytes.{commonStart}
 use Rattle.name_classes.specs.Order.{before}
 
 -- What the first bytes leave.
@@ -71,32 +70,37 @@ before-neither (x ∷ a) (y ∷ b) h k =
         go false true u v = absurd (g (ltb-true y x v))
         go false false u v = let m = ltb-false x y u in let n = ltb-false y x v in omega arith
 
--- ---- one byte more, as the code takes it
-module _ (a b : List ℕ) (i : ℕ) where
-  before-at : i < length a → i < length b
-      → before (drop i a) (drop i b)
-      ≡ cond (ltb (getD a i 0) (getD b i 0)) true (cond (ltb (getD b i 0) (getD a i 0)) false (before (drop (i + 1) a) (drop (i + 1) b)))
-  unfolding before
-  before-at h k = rw (add-one i, drop-cons a i 0 h, drop-cons b i 0 k)
+-- ---- the first byte in which they differ, as the code finds it
+other-head : (x y : ℕ) (r : Bool) → eqb x y ≡ false → cond (ltb x y) true (cond (ltb y x) false r) ≡ ltb x y
+other-head x y r e = go (ltb x y) (ltb y x) refl refl
+  where
+    go : (c d : Bool) → ltb x y ≡ c → ltb y x ≡ d → cond c true (cond d false r) ≡ c
+    go true d u v = refl
+    go false true u v = refl
+    go false false u v = let n = eqb-false x y e in let l = ltb-false x y u in let g = ltb-false y x v in absurd (n (omega arith))
 
-  pub before-out : i < length a → length b ≤ i → before (drop i a) (drop i b) ≡ false
-  unfolding before
-  before-out h k = rw (drop-cons a i 0 h, drop-of-length-le b {i = i} k)
+-- What is known at the first byte in which they differ.
+abbrev parts : List ℕ → List ℕ → ℕ → Bool
+parts a b n = cond (leb (length b) n) false (cond (leb (length a) n) true (ltb (getD a n 0) (getD b n 0)))
 
-  pub before-less : i < length a → i < length b → getD a i 0 < getD b i 0 → before (drop i a) (drop i b) ≡ true
-  before-less h k q = before-at h k ∙ less-head _ _ _ q
+before-parts : (a b : List ℕ) → before a b ≡ parts a b (commonStart a b)
+unfolding before commonStart
+before-parts [] [] = refl
+before-parts [] (y ∷ b) = rw (leb·suc-zero (length b))
+before-parts (x ∷ a) [] = refl
+before-parts (x ∷ a) (y ∷ b) = go (before-parts a b) (eqb x y) refl
+  where
+    go : before a b ≡ parts a b (commonStart a b) → (c : Bool) → eqb x y ≡ c
+        → cond (ltb x y) true (cond (ltb y x) false (before a b)) ≡ parts (x ∷ a) (y ∷ b) (cond c (suc (commonStart a b)) 0)
+    go rest true e = equal-head x y (before a b) (eqb-true x y e) ∙ rest ∙ rw (leb·suc-suc (length b) (commonStart a b), leb·suc-suc (length a) (commonStart a b))
+    go rest false e = rw (leb·suc-zero (length b), leb·suc-zero (length a)) (other-head x y (before a b) e)
 
-  pub before-more : i < length a → i < length b → getD b i 0 < getD a i 0 → before (drop i a) (drop i b) ≡ false
-  before-more h k q = before-at h k ∙ rw (le-ltb (getD a i 0) (getD b i 0) (omega arith), lt-ltb (getD b i 0) (getD a i 0) q)
+module _ (a b : List ℕ) (i : ℕ) (e : i ≡ commonStart a b) where
+  pub before-out : length b ≤ i → false ≡ before a b
+  before-out h = rw (before-parts a b, ← e, le-leb _ _ h)
 
-  pub before-next : i < length a → i < length b → getD b i 0 ≤ getD a i 0 → getD a i 0 ≤ getD b i 0
-      → before (drop i a) (drop i b) ≡ before (drop (i + 1) a) (drop (i + 1) b)
-  before-next h k q r = let e : getD a i 0 ≡ getD b i 0 = omega arith in before-at h k ∙ equal-head (getD a i 0) (getD b i 0) _ e
+  pub before-end : i < length b → length a ≤ i → true ≡ before a b
+  before-end h k = rw (before-parts a b, ← e, lt-leb _ _ h, le-leb _ _ k)
 
-  pub before-end : length a ≤ i → ltb i (length b) ≡ before (drop i a) (drop i b)
-  unfolding before
-  before-end h = go (ltb i (length b)) refl
-    where
-      go : (c : Bool) → ltb i (length b) ≡ c → c ≡ before (drop i a) (drop i b)
-      go true e = rw (drop-of-length-le a {i = i} h, drop-cons b i 0 (ltb-true i (length b) e))
-      go false e = rw (drop-of-length-le a {i = i} h, drop-of-length-le b {i = i} (ltb-false i (length b) e))
+  pub before-at : i < length b → i < length a → ltb (getD a i 0) (getD b i 0) ≡ before a b
+  before-at h k = rw (before-parts a b, ← e, lt-leb _ _ h, lt-leb _ _ k)

@@ -4,8 +4,8 @@ use mathlib.Core.Path.{_≡_, refl, ap, ap₂, _∙_}
 use mathlib.Core.Bool.{Bool, true, false}
 use native.Mathlib.Numerals.{add-one}
 use native.Mathlib.Omega.{arith}
-use Rattle.csdl.specs.Search.{mark, sumFrom, countFrom}
-use Rattle.name_classes.proofs.Sorting.{split}
+use Rattle.csdl.proofs.Logic.{below-or-not}
+use Rattle.csdl.specs.Search.{oneIf, sumFrom, countFrom}
 
 sum-suc : (f : ℕ → ℕ) (i n : ℕ) → sumFrom f i (suc n) ≡ sumFrom f i n + f (i + n)
 unfolding sumFrom
@@ -15,10 +15,10 @@ sum-suc f i (suc n) =
     let s : sumFrom f (i + 1) (suc n) ≡ sumFrom f (i + 1) n + f (i + suc n) = rw e at (sum-suc f (i + 1) n) in
     omega arith
 
-count-suc : (test : ℕ → Bool) (n : ℕ) → countFrom test 0 (suc n) ≡ countFrom test 0 n + mark (test n)
-count-suc test n = let e : 0 + n ≡ n = omega arith in sum-suc (λ k. mark (test k)) 0 n ∙ ap (λ (x : ℕ). countFrom test 0 n + mark (test x)) e
+count-suc : (test : ℕ → Bool) (n : ℕ) → countFrom test 0 (suc n) ≡ countFrom test 0 n + oneIf (test n)
+count-suc test n = let e : 0 + n ≡ n = omega arith in sum-suc (λ k. oneIf (test k)) 0 n ∙ ap (λ (x : ℕ). countFrom test 0 n + oneIf (test x)) e
 
-pub count-next : (test : ℕ → Bool) (n : ℕ) → countFrom test 0 (n + 1) ≡ countFrom test 0 n + mark (test n)
+pub count-next : (test : ℕ → Bool) (n : ℕ) → countFrom test 0 (n + 1) ≡ countFrom test 0 n + oneIf (test n)
 count-next test n = rw (add-one n) (count-suc test n)
 
 sum-shift : (f g : ℕ → ℕ) (i n : ℕ) → ((j : ℕ) → i ≤ j → j < i + n → g (suc j) ≡ f j) → sumFrom g (i + 1) n ≡ sumFrom f i n
@@ -52,6 +52,6 @@ count-none test = refl
 pub count-front : (test : ℕ → Bool) (n i : ℕ) → i ≤ n → ((j : ℕ) → j < i → test j ≡ true) → ((j : ℕ) → i ≤ j → j < n → test j ≡ false) → countFrom test 0 n ≡ i
 count-front test zero i h a b = omega (arith, count-none test)
 count-front test (suc n) i h a b =
-    split n i
+    below-or-not n i
     (λ l. count-suc test n ∙ rw (a n l) (omega (arith, l, h, count-front test n n (omega arith) (λ j k. a j (omega arith)) (λ j k m. absurd (omega arith)))))
     (λ l. count-suc test n ∙ rw (b n l (omega arith)) (omega (arith, count-front test n i l a (λ j k m. b j k (omega arith)))))

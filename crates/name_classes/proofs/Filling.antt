@@ -13,11 +13,10 @@ use borrow.Author.Tests.{ltb-true, ltb-false, lt-ltb, le-ltb}
 use Rattle.packed.specs.Bytes.{same}
 use Rattle.packed.proofs.Laws.{same-sound, same-complete}
 use Rattle.name_classes.specs.Order.{before}
-use Rattle.csdl.specs.Search.{mark, anyFrom, sumFrom, countFrom}
-use Rattle.csdl.proofs.Logic.{any-found, any-of, not-so, sum-same}
+use Rattle.csdl.specs.Search.{oneIf, anyFrom, sumFrom, countFrom}
+use Rattle.csdl.proofs.Logic.{any-found, any-of, not-so, sum-same, below-or-not, equal-or-not}
 use Rattle.name_classes.specs.Classes.{isFirst, Sorted, Stands, firstAt, Inserted, Ranked}
 use Rattle.name_classes.proofs.Before.{before-trans, before-self, before-neither}
-use Rattle.name_classes.proofs.Sorting.{split, even}
 use Rattle.name_classes.proofs.Counting.{count-next, sum-insert}
 
 -- ---- the property at a place, as the code asks for it
@@ -62,7 +61,7 @@ module _ (name : ℕ → List ℕ) (order : List ℕ) (firsts at : ℕ) (x : Lis
 module _ (name : ℕ → List ℕ) where
   -- One property more has a new name, or the name of one before it.
   count-new : (test : ℕ → Bool) (p : ℕ) → ((q : ℕ) → q < p → name q ≡ name p → ⊥)
-      → countFrom (λ q. isFirst name q && test q) 0 (p + 1) ≡ countFrom (λ q. isFirst name q && test q) 0 p + mark (test p)
+      → countFrom (λ q. isFirst name q && test q) 0 (p + 1) ≡ countFrom (λ q. isFirst name q && test q) 0 p + oneIf (test p)
   count-new test p h =
       let e : anyFrom (λ q. same (name q) (name p)) 0 p ≡ false = not-so _ (λ t. let w = any-found (λ q. same (name q) (name p)) 0 p t in h (w .0) (omega (arith, w .2)) (same-sound _ _ (w .3))) in
       count-next (λ q. isFirst name q && test q) p ∙ rw e
@@ -107,7 +106,7 @@ module _ (name : ℕ → List ℕ) where
           sorted = λ i j l m. rw (lows i (omega arith), lows j m) (f .sorted i j l m);
           below = λ i l. rw (lows i l) (omega (arith, f .below i l));
           first = λ i l. rw (lows i l) (f .first i l);
-          stands = λ q l. even q p
+          stands = λ q l. equal-or-not q p
               (λ z. (at, w .below, rw (z, new index h (f .size), lows at (w .below)) (omega (arith, n, w .number)), rw (z, lows at (w .below)) (w .has)))
               (λ m. let s = f .stands q (omega (arith, l, m)) in (s .0, s .1, rw (old index h (f .size) (512 + q) (λ y. m (omega (arith, y))), lows (s .0) (s .1)) (s .2), rw (lows (s .0) (s .1)) (s .3)));
         }
@@ -124,7 +123,7 @@ module _ (name : ℕ → List ℕ) where
               ∙ same-complete _ _ (before-neither (name (getD index at 0)) (name p) (s .back at (omega arith) l) q)))
 
       behind : (i : ℕ) → at ≤ i → i < firsts → before (name p) (name (getD index i 0)) ≡ true
-      behind i l m = even i at
+      behind i l m = equal-or-not i at
           (λ y. rw y (behind-here (omega (arith, y, m))))
           (λ y. before-trans (name p) (name (getD index at 0)) (name (getD index i 0)) (behind-here (omega (arith, l, m))) (f .sorted at i (omega (arith, l, y)) m))
 
@@ -133,7 +132,7 @@ module _ (name : ℕ → List ℕ) where
       apart a b t q = false≢true (sym (before-self b) ∙ ap (λ (x : List ℕ). before x b) (sym q) ∙ t)
 
       fresh : (i : ℕ) → i < firsts → name (getD index i 0) ≡ name p → ⊥
-      fresh i l q = split i at (λ m. apart _ _ (s .front i m) q) (λ m. apart _ _ (behind i m l) (sym q))
+      fresh i l q = below-or-not i at (λ m. apart _ _ (s .front i m) q) (λ m. apart _ _ (behind i m l) (sym q))
 
       unnamed : (q : ℕ) → q < p → name q ≡ name p → ⊥
       unnamed q l y = let w = f .stands q l in fresh (w .0) (w .1) (w .3 ∙ y)
@@ -149,7 +148,7 @@ module _ (name : ℕ → List ℕ) where
       unfolding last
       entry j m a b c =
           let k = low next (p + 1) (n .size ∙ f .size) j (omega (arith, m, f .most)) in
-          split j at (λ l. a l (k ∙ n .front j l)) (λ l. even j at (λ y. b y (k ∙ rw y (n .here))) (λ y. let g : at < j = omega (arith, l, y) in c g (k ∙ moved j g m)))
+          below-or-not j at (λ l. a l (k ∙ n .front j l)) (λ l. equal-or-not j at (λ y. b y (k ∙ rw y (n .here))) (λ y. let g : at < j = omega (arith, l, y) in c g (k ∙ moved j g m)))
 
       ordered : Sorted name last (firsts + 1)
       ordered i j l m =
@@ -176,7 +175,7 @@ module _ (name : ℕ → List ℕ) where
       moved-on i h l = low next (p + 1) (n .size ∙ f .size) (suc i) (omega (arith, l, f .most)) ∙ n .back i h l
 
       place : (i : ℕ) → i < firsts → (k : ℕ) × (k < firsts + 1) × (getD last k 0 ≡ getD index i 0)
-      place i l = split i at (λ h. (i, omega arith, in-front i h)) (λ h. (suc i, omega arith, moved-on i h l))
+      place i l = below-or-not i at (λ h. (i, omega arith, in-front i h)) (λ h. (suc i, omega arith, moved-on i h l))
 
       new-place : getD last at 0 ≡ p
       unfolding last
@@ -194,21 +193,21 @@ module _ (name : ℕ → List ℕ) where
       unfolding last
       sized = length-set next (512 + p) (p + 1) ∙ n .size ∙ f .size
 
-      one-counted : (test : ℕ → Bool) → countFrom (λ i. test (getD last i 0)) 0 (firsts + 1) ≡ countFrom (λ i. test (getD index i 0)) 0 firsts + mark (test p)
+      one-counted : (test : ℕ → Bool) → countFrom (λ i. test (getD last i 0)) 0 (firsts + 1) ≡ countFrom (λ i. test (getD index i 0)) 0 firsts + oneIf (test p)
       one-counted test =
           rw (add-one firsts)
-          (sum-insert (λ i. mark (test (getD index i 0))) (λ i. mark (test (getD last i 0))) (mark (test p)) 0 at firsts (s .most)
+          (sum-insert (λ i. oneIf (test (getD index i 0))) (λ i. oneIf (test (getD last i 0))) (oneIf (test p)) 0 at firsts (s .most)
           (λ i a l. rw (in-front i (omega (arith, l)))) (rw (zero-add at, new-place)) (λ i a l. rw (moved-on i (omega (arith, a)) (omega (arith, l)))))
 
       new-ranked : Ranked name (p + 1) (firsts + 1) last
       new-ranked = record {
         size = sized;
         most = omega (arith, f .most);
-        counted = λ test. count-new test p unnamed ∙ ap (λ (k : ℕ). k + mark (test p)) (f .counted test) ∙ sym (one-counted test);
+        counted = λ test. count-new test p unnamed ∙ ap (λ (k : ℕ). k + oneIf (test p)) (f .counted test) ∙ sym (one-counted test);
         sorted = ordered;
         below = λ i l. entry i l (λ x u. rw u (omega (arith, f .below i (omega (arith, x, s .most))))) (λ x u. rw u (omega arith)) (λ x u. rw u (omega (arith, f .below (i - 1) (omega (arith, x, l)))));
         first = λ i l. entry i l (λ x u. rw u (f .first i (omega (arith, x, s .most)))) (λ x u. rw u unnamed) (λ x u. rw u (f .first (i - 1) (omega (arith, x, l))));
-        stands = λ q l. even q p
+        stands = λ q l. equal-or-not q p
             (λ y. (at, omega (arith, s .most), rw (y, new-entry, new-place) (add-one p), rw (y, new-place)))
             (λ m. let w = f .stands q (omega (arith, l, m)) in let k = place (w .0) (w .1) in (k .0, k .1, rw (old-entry q (omega (arith, l, m)), k .2) (w .2), rw (k .2) (w .3)));
       }

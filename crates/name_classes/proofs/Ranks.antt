@@ -9,12 +9,11 @@ use lib.ListN.{length, getD}
 use borrow.Author.Tests.{eq-eqb, eqb-true}
 use Rattle.packed.specs.Bytes.{same}
 use Rattle.packed.proofs.Laws.{same-sound, same-complete}
-use Rattle.csdl.specs.Search.{firstFrom, mark, countFrom}
-use Rattle.csdl.proofs.Logic.{not-so, first-is, none-first, sum-same}
+use Rattle.csdl.specs.Search.{firstFrom, oneIf, countFrom}
+use Rattle.csdl.proofs.Logic.{not-so, first-is, none-first, sum-same, below-or-not, equal-or-not}
 use Rattle.name_classes.specs.Order.{before}
 use Rattle.name_classes.specs.Classes.{isFirst, nameCount, nameRank, Sorted, Stands, firstAt, Ranked}
 use Rattle.name_classes.proofs.Before.{before-trans, before-self, before-neither}
-use Rattle.name_classes.proofs.Sorting.{split, even}
 use Rattle.name_classes.proofs.Counting.{count-front}
 use Rattle.name_classes.proofs.Filling.{Found, at-found, at-none}
 
@@ -26,7 +25,7 @@ differ a b n = not-so _ (λ y. n (same-sound a b y))
 
 -- First properties of one name stand at one place.
 one-place : (name : ℕ → List ℕ) (order : List ℕ) (firsts : ℕ) → Sorted name order firsts → (i j : ℕ) → i < firsts → j < firsts → name (getD order i 0) ≡ name (getD order j 0) → i ≡ j
-one-place name order firsts sorted i j h k e = even i j (λ z. z) (λ z. split i j (λ l. absurd (apart _ _ (sorted i j l k) e)) (λ l. absurd (apart _ _ (sorted j i (omega (arith, l, z)) h) (sym e))))
+one-place name order firsts sorted i j h k e = equal-or-not i j (λ z. z) (λ z. below-or-not i j (λ l. absurd (apart _ _ (sorted i j l k) e)) (λ l. absurd (apart _ _ (sorted j i (omega (arith, l, z)) h) (sym e))))
 
 module _ (name : ℕ → List ℕ) (n firsts : ℕ) (index : List ℕ) (f : Ranked name n firsts index) where
   pub small : (p : ℕ) → p < n → getD index (512 + p) 0 ≤ n
@@ -64,13 +63,13 @@ module _ (name : ℕ → List ℕ) (n firsts : ℕ) (index : List ℕ) (f : Rank
 
   -- There are as many names as entries; the entry at a place is the first property whose name has so many names before it.
   pub firsts-count : firsts ≡ nameCount name n
-  firsts-count = sym (sum-same _ _ 0 n (λ p a l. ap mark (sym (and-true (isFirst name p)))) ∙ f .counted (λ p. true) ∙ count-front (λ i. true) firsts firsts (omega arith) (λ i l. refl) (λ i l m. absurd (omega arith)))
+  firsts-count = sym (sum-same _ _ 0 n (λ p a l. ap oneIf (sym (and-true (isFirst name p)))) ∙ f .counted (λ p. true) ∙ count-front (λ i. true) firsts firsts (omega arith) (λ i l. refl) (λ i l m. absurd (omega arith)))
 
   rank-of : (i : ℕ) → i < firsts → nameRank name n (name (getD index i 0)) ≡ i
   rank-of i l =
       f .counted (λ p. before (name p) (name (getD index i 0)))
       ∙ count-front (λ j. before (name (getD index j 0)) (name (getD index i 0))) firsts i (omega arith) (λ j k. f .sorted j i k l)
-      (λ j k m. even j i (λ z. rw z (before-self (name (getD index i 0)))) (λ z. not-so _ (λ t. false≢true (sym (before-self (name (getD index i 0))) ∙ before-trans _ _ _ (f .sorted i j (omega (arith, k, z)) m) t))))
+      (λ j k m. equal-or-not j i (λ z. rw z (before-self (name (getD index i 0)))) (λ z. not-so _ (λ t. false≢true (sym (before-self (name (getD index i 0))) ∙ before-trans _ _ _ (f .sorted i j (omega (arith, k, z)) m) t))))
 
   pub place-first : (i : ℕ) → i < firsts → suc (getD index i 0) ≡ firstFrom (λ p. eqb (nameRank name n (name p)) i) 0 n
   place-first i l =
@@ -83,7 +82,7 @@ module _ (name : ℕ → List ℕ) (n firsts : ℕ) (index : List ℕ) (f : Rank
   -- What the search for a name gives.
   module _ (x : List ℕ) (at r : ℕ) (s : Stands name index firsts x at) (e : r ≡ firstAt name index firsts at x) where
     absent : r ≡ 0 → (i : ℕ) → i < firsts → name (getD index i 0) ≡ x → ⊥
-    absent z i h q = split i at (λ l. apart _ _ (s .front i l) q) (λ l. even i at
+    absent z i h q = below-or-not i at (λ l. apart _ _ (s .front i l) q) (λ l. equal-or-not i at
         (λ y. here y)
         (λ y. behind (omega (arith, l, y))))
       where
@@ -94,7 +93,7 @@ module _ (name : ℕ → List ℕ) (n firsts : ℕ) (index : List ℕ) (f : Rank
         behind l = false≢true (sym (s .back at (omega arith) (omega arith)) ∙ ap (λ (y : List ℕ). before (name (getD index at 0)) y) (sym q) ∙ f .sorted at i l h)
 
     pub search-first : r ≡ firstFrom (λ q. same (name q) x) 0 n
-    search-first = even r 0
+    search-first = equal-or-not r 0
         (λ z. z ∙ sym (none-first (λ q. same (name q) x) 0 n (λ q a b. differ (name q) x (λ y. let w = f .stands q (omega (arith, b)) in absent z (w .0) (w .1) (w .3 ∙ y)))))
         (λ z. let w = at-found name index firsts at x r e z in found w (sym (place-leads at (w .below) x (w .has))) z)
       where

@@ -11,26 +11,12 @@ use lib.Dec.{eqb, ltb}
 use lib.ListN.{length, getD, set, length-set}
 use lib.Seq.{getD-set-same, getD-set-other}
 use borrow.Author.Tests.{eqb-true, eqb-false, eq-eqb, ltb-true, ltb-false}
+use Rattle.csdl.proofs.Logic.{equal-or-not}
 use Rattle.packed.specs.Bytes.{same}
 use Rattle.packed.proofs.Laws.{same-sound, same-complete}
 use Rattle.name_classes.specs.Order.{before}
 use Rattle.name_classes.specs.Classes.{Sorted, Stands, Inserted}
 use Rattle.name_classes.proofs.Before.{before-trans, before-self, before-neither}
-
--- A number below another, or not; equal, or not.
-pub split : {A : Type 0} (q m : ℕ) → (q < m → A) → (m ≤ q → A) → A
-split {A = A} q m f g = go (ltb q m) refl
-  where
-    go : (b : Bool) → ltb q m ≡ b → A
-    go true e = f (ltb-true q m e)
-    go false e = g (ltb-false q m e)
-
-pub even : {A : Type 0} (q m : ℕ) → (q ≡ m → A) → ((q ≡ m → ⊥) → A) → A
-even {A = A} q m f g = go (eqb q m) refl
-  where
-    go : (b : Bool) → eqb q m ≡ b → A
-    go true e = f (eqb-true q m e)
-    go false e = g (eqb-false q m e)
 
 -- ---- halving: what is known of the entries below `low` and from `high` on
 module _ (name : ℕ → List ℕ) (order : List ℕ) (firsts : ℕ) (sorted : Sorted name order firsts) (x : List ℕ) where
@@ -48,7 +34,7 @@ module _ (name : ℕ → List ℕ) (order : List ℕ) (firsts : ℕ) (sorted : S
     between-up t = record {
       ordered = omega arith;
       most = w .most;
-      front = λ i k. even i mid (λ z. rw z (sym e ∙ t)) (λ n. before-trans _ (name (getD order mid 0)) _ (sorted i mid (omega (arith, n)) (omega (arith, w .most))) (sym e ∙ t));
+      front = λ i k. equal-or-not i mid (λ z. rw z (sym e ∙ t)) (λ n. before-trans _ (name (getD order mid 0)) _ (sorted i mid (omega (arith, n)) (omega (arith, w .most))) (sym e ∙ t));
       back = w .back;
     }
 
@@ -57,7 +43,7 @@ module _ (name : ℕ → List ℕ) (order : List ℕ) (firsts : ℕ) (sorted : S
       ordered = l;
       most = omega (arith, w .most);
       front = w .front;
-      back = λ i k m. even i mid (λ z. rw z (sym e ∙ t)) (λ n. later i (omega (arith, n)) m);
+      back = λ i k m. equal-or-not i mid (λ z. rw z (sym e ∙ t)) (λ n. later i (omega (arith, n)) m);
     }
       where
         later : (i : ℕ) → mid < i → i < firsts → before (name (getD order i 0)) x ≡ false
@@ -95,7 +81,7 @@ module _ (order : List ℕ) (firsts at : ℕ) where
           high = omega (arith, w .high);
           few = w .few;
           front = λ i l. getD-set-other next k i v 0 (λ y. omega (arith, y, l, h)) ∙ w .front i (omega (arith, l));
-          back = λ i l m. even i (k - 1)
+          back = λ i l m. equal-or-not i (k - 1)
               (λ z. let s : suc i ≡ k = omega (arith, z, h) in rw (s, getD-set-same next k v 0 (rw (w .size) (omega (arith, w .high, w .few))), z) is)
               (λ n. getD-set-other next k (suc i) v 0 (λ y. omega (arith, y, l, n, h)) ∙ w .back i (omega (arith, l, n, h)) m);
           rest = λ i l. getD-set-other next k i v 0 (λ y. omega (arith, y, l, w .high)) ∙ w .rest i l;

@@ -1,23 +1,18 @@
 // Byte strings in an order.
 ghost use mathlib.Core.Path.{_≡_};
 ghost use Rattle.name_classes.specs.Order.{before};
+use packed::common_start;
 
 // Whether a comes before b: by the first byte in which they differ, or because b goes on where a ends.
 pub fn comes_before(a: &[u8], b: &[u8]) -> bool
     ensures { λ r. ⌜ r ≡ before (now (a .entry)) (now (b .entry)) ⌝ }
 {
-    let mut i: usize = 0;
-    while i < a.len() {
-        if b.len() <= i {
-            return false;
-        }
-        if a[i] < b[i] {
-            return true;
-        }
-        if b[i] < a[i] {
-            return false;
-        }
-        i += 1;
+    let i = common_start(a, b);
+    if b.len() <= i {
+        return false;
     }
-    i < b.len()
+    if a.len() <= i {
+        return true;
+    }
+    a[i] < b[i]
 }

@@ -1,18 +1,18 @@
 -- Laws of packed fields, of parts, of equal byte strings and of the two bytes of a number. Assumes nothing.
 use mathlib.Core.Path.{_≡_, refl, sym, ap, _∙_}
 use mathlib.Core.List.{List, [], _∷_}
-use mathlib.Core.Bool.{Bool, true, false, _&&_, and-false, false≢true}
-use Prim.Native.Nat.{ℕ, zero, suc, _+_, _-_, _*_, _/_, _%_, _^_, _≤_, _<_}
-use native.Mathlib.Nat.{add-zero, add-suc, add-assoc, mul-one, one-mul, mul-assoc, pow-zero, pow-suc, mod-one, mod-eq-of-lt, div-one, zero-div}
+use mathlib.Core.Bool.{Bool, true, false, cond, _&&_, and-false, false≢true}
+use Prim.Native.Nat.{ℕ, zero, suc, min, _+_, _-_, _*_, _/_, _%_, _^_, _≤_, _<_}
+use native.Mathlib.Nat.{add-zero, add-suc, add-assoc, mul-one, one-mul, mul-assoc, mul-suc, pow-zero, pow-suc, mod-one, mod-eq-of-lt, div-one, zero-div}
 use native.Mathlib.Numerals.{add-one}
 use native.Mathlib.Omega.{arith}
-use lib.Dec.{eqb, eqb·zero-suc, eqb·suc-zero, eqb·suc-suc}
+use lib.Dec.{eqb, ltb, eqb·zero-suc, eqb·suc-zero, eqb·suc-suc}
 use lib.ListN.{length, getD, take, drop, length-drop, drop-of-length-le, List·getD-eq-default}
 use lib.Seq.{getD-take, getD-drop, drop-cons, take-all, take-nil}
-use lib.Pow.{mod-pow-add, shr-shr, shl-exact, high, low}
-use borrow.Author.Tests.{eqb-true, eq-eqb, ne-eqb}
+use lib.Pow.{mod-pow-add, pow-add, shr-shr, shl-exact, high, low}
+use borrow.Author.Tests.{eqb-true, eqb-false, eq-eqb, ne-eqb, ltb-true, ltb-false}
 use Rattle.packed.specs.Field.{bit, fieldOf}
-use Rattle.packed.specs.Bytes.{same, part, highByte, lowByte}
+use Rattle.packed.specs.Bytes.{same, commonStart, part, highByte, lowByte}
 
 -- ---- fields
 pub bit-lt : (s : List ℕ) (k : ℕ) → bit s k < 2
@@ -190,22 +190,92 @@ same-lengths [] (y ∷ b) h = refl
 same-lengths (x ∷ a) [] h = refl
 same-lengths (x ∷ a) (y ∷ b) h = rw (same-lengths a b (λ e. h (ap suc e)), and-false)
 
+-- strings of one length are equal where they begin alike in all their bytes
+pub same-common : (a b : List ℕ) → length a ≡ length b → eqb (commonStart a b) (length a) ≡ same a b
+unfolding same commonStart
+same-common [] [] e = refl
+same-common [] (y ∷ b) e = absurd (omega arith)
+same-common (x ∷ a) [] e = absurd (omega arith)
+same-common (x ∷ a) (y ∷ b) e = go (same-common a b (omega arith)) (eqb x y)
+  where
+    go : eqb (commonStart a b) (length a) ≡ same a b → (c : Bool) → eqb (cond c (suc (commonStart a b)) 0) (suc (length a)) ≡ (c && same a b)
+    go rest true = eqb·suc-suc (commonStart a b) (length a) ∙ rest
+    go rest false = eqb·zero-suc (length a)
+
 -- strings compared from the front, at byte i
-module _ (a b : List ℕ) (i : ℕ) (e : length a ≡ length b) where
-  same-at : i < length a → same (drop i a) (drop i b) ≡ (eqb (getD a i 0) (getD b i 0) && same (drop (i + 1) a) (drop (i + 1) b))
-  unfolding same
-  same-at h = rw (add-one, drop-cons a i 0 h, drop-cons b i 0 (omega arith))
+common-nil : (a : List ℕ) → commonStart a [] ≡ 0
+unfolding commonStart
+common-nil [] = refl
+common-nil (x ∷ a) = refl
 
-  pub same-step : i < length a → getD a i 0 ≡ getD b i 0 → same (drop i a) (drop i b) ≡ same (drop (i + 1) a) (drop (i + 1) b)
-  same-step h q = rw (same-at h, eq-eqb _ _ q)
+module _ (a b : List ℕ) (i : ℕ) where
+  common-at : i < length a → i < length b → commonStart (drop i a) (drop i b) ≡ cond (eqb (getD a i 0) (getD b i 0)) (suc (commonStart (drop (i + 1) a) (drop (i + 1) b))) 0
+  unfolding commonStart
+  common-at h k = rw (add-one, drop-cons a i 0 h, drop-cons b i 0 k)
 
-  pub same-differ : i < length a → (getD a i 0 ≡ getD b i 0 → ⊥) → same (drop i a) (drop i b) ≡ false
-  same-differ h q = rw (same-at h, ne-eqb _ _ q)
+  pub common-step : i < length a → i < length b → getD a i 0 ≡ getD b i 0 → commonStart (drop i a) (drop i b) ≡ 1 + commonStart (drop (i + 1) a) (drop (i + 1) b)
+  common-step h k q = rw (common-at h k, eq-eqb _ _ q) (omega arith)
 
-  pub same-end : length a ≤ i → same (drop i a) (drop i b) ≡ true
-  unfolding same
-  same-end h = rw (drop-of-length-le a {i = i} h, drop-of-length-le b {i = i} (omega arith))
+  pub common-differ : i < length a → i < length b → (getD a i 0 ≡ getD b i 0 → ⊥) → commonStart (drop i a) (drop i b) ≡ 0
+  common-differ h k q = rw (common-at h k, ne-eqb _ _ q)
 
--- ---- the two bytes of a number
+  pub common-end : min (length a) (length b) ≤ i → commonStart (drop i a) (drop i b) ≡ 0
+  unfolding commonStart
+  common-end h = go (ltb i (length a)) refl
+    where
+      go : (c : Bool) → ltb i (length a) ≡ c → commonStart (drop i a) (drop i b) ≡ 0
+      go true e = let l = ltb-true i (length a) e in rw (drop-of-length-le b {i = i} (omega arith)) (common-nil (drop i a))
+      go false e = rw (drop-of-length-le a {i = i} (ltb-false i (length a) e))
+
+-- n bytes that are alike
+common-more : (a b : List ℕ) (i n : ℕ) → i + n ≤ length a → i + n ≤ length b → ((k : ℕ) → i ≤ k → k < i + n → getD a k 0 ≡ getD b k 0)
+    → commonStart (drop i a) (drop i b) ≡ n + commonStart (drop (i + n) a) (drop (i + n) b)
+common-more a b i zero h k e = rw (add-zero i) (omega arith)
+common-more a b i (suc n) h k e =
+    let z : i + suc n ≡ i + 1 + n = omega arith in
+    rw (common-step a b i (omega arith) (omega arith) (e i (omega arith) (omega arith)), z, common-more a b (i + 1) n (omega arith) (omega arith) (λ j l m. e j (omega arith) (omega arith))) (omega arith)
+
+-- n bytes whose bits are alike
+module _ (a b : List ℕ) (i : ℕ) (p : (k : ℕ) → getD a k 0 < 256) (q : (k : ℕ) → getD b k 0 < 256) where
+  bytes-alike : (n : ℕ) → fieldOf a (8 * i) (8 * n) ≡ fieldOf b (8 * i) (8 * n) → (k : ℕ) → i ≤ k → k < i + n → getD a k 0 ≡ getD b k 0
+  bytes-alike zero e k l h = absurd (omega arith)
+  bytes-alike (suc n) e k l h = go (λ f m. bytes-alike n f k l m) (eqb k (i + n)) refl
+    where
+      w : 8 * suc n ≡ 8 * n + 8
+      w = omega arith
+
+      o : 8 * i + 8 * n ≡ 8 * (i + n)
+      o = omega arith
+
+      f : fieldOf a (8 * i) (8 * n + 8) ≡ fieldOf b (8 * i) (8 * n + 8)
+      f = rw (← w) e
+
+      last : getD a (i + n) 0 ≡ getD b (i + n) 0
+      last =
+          sym (field-8 a (i + n) (p (i + n)))
+          ∙ rw (← o) (sym (field-low a (8 * i) (8 * n) 8) ∙ ap (λ (x : ℕ). x % 2 ^ 8) f ∙ field-low b (8 * i) (8 * n) 8)
+          ∙ field-8 b (i + n) (q (i + n))
+
+      go : (fieldOf a (8 * i) (8 * n) ≡ fieldOf b (8 * i) (8 * n) → k < i + n → getD a k 0 ≡ getD b k 0) → (c : Bool) → eqb k (i + n) ≡ c → getD a k 0 ≡ getD b k 0
+      go rest true g = rw (eqb-true k (i + n) g) last
+      go rest false g =
+          let z = eqb-false k (i + n) g in
+          rest (sym (field-high a (8 * i) (8 * n) 8) ∙ ap (λ (x : ℕ). x / 2 ^ 8) f ∙ field-high b (8 * i) (8 * n) 8) (omega (arith, h, z))
+
+  pub common-eight : i + 8 ≤ length a → i + 8 ≤ length b → fieldOf a (8 * i) 64 ≡ fieldOf b (8 * i) 64 → commonStart (drop i a) (drop i b) ≡ 8 + commonStart (drop (i + 8) a) (drop (i + 8) b)
+  common-eight h k e = common-more a b i 8 h k (bytes-alike 8 e)
+
+-- eight bytes, as the code reads them
+pub field-64 : (s : List ℕ) (k x y : ℕ) → x ≡ fieldOf s (8 * k) 32 → y ≡ fieldOf s (8 * (k + 4)) 32 → x * 2 ^ 32 + y ≡ fieldOf s (8 * k) 64
+field-64 s k x y p q =
+    let o : 8 * k + 32 ≡ 8 * (k + 4) = omega arith in
+    sym (rw (field-add s (8 * k) 32 32, o, ← p, ← q))
+
+-- ---- the bytes of a number
 pub two-bytes : (n : ℕ) → highByte n * 256 + lowByte n ≡ n
 two-bytes n = omega arith
+
+-- eight bits a byte
+pub byte-pow : (k : ℕ) → 2 ^ (8 * k) ≡ 256 ^ k
+byte-pow zero = refl
+byte-pow (suc k) = rw (mul-suc, pow-add, byte-pow k) (sym (pow-suc 256 k))

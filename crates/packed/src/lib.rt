@@ -1,9 +1,9 @@
 // Packed fields and byte strings. The reader goes by shifts and masks; each stands in a small function whose contract is in / and %.
 ghost use mathlib.Core.Path.{_≡_};
 ghost use Prim.Native.Nat.{min, _+_, _*_, _/_, _%_, _^_, _≤_, _<_};
-ghost use lib.ListN.{length, getD};
+ghost use lib.ListN.{length, getD, drop};
 ghost use Rattle.packed.specs.Field.{fieldOf, flagOf};
-ghost use Rattle.packed.specs.Bytes.{same, part, highByte, lowByte};
+ghost use Rattle.packed.specs.Bytes.{same, commonStart, part};
 
 fn least(a: usize, b: usize) -> usize
     ensures { λ r. ⌜ r ≡ min a b ⌝ }
@@ -41,18 +41,26 @@ fn word_of(a: u64, b: u64, c: u64, d: u64) -> u64
     joined(joined(a, b, 8, 8), joined(c, d, 8, 8), 16, 16)
 }
 
+// The 32 bits from byte i on, where there are as many.
+fn four_in(s: &[u8], i: usize) -> u64
+    requires { ⌜ i + 4 ≤ length (now s) ⌝ }
+    ensures { λ r. ⌜ (r ≡ fieldOf (now (s .entry)) (8 * i) 32) × (r < 4294967296) ⌝ }
+{
+    word_of(
+        byte_in(s, i),
+        byte_in(s, i + 1),
+        byte_in(s, i + 2),
+        byte_in(s, i + 3),
+    )
+}
+
 // The 32 bits from byte i on.
 fn word_at(s: &[u8], i: usize) -> u64
-    requires { ⌜ i < 4294967296 ⌝ }
+    requires { ⌜ i < 18446744073709551612 ⌝ }
     ensures { λ r. ⌜ r ≡ fieldOf (now (s .entry)) (8 * i) 32 ⌝ }
 {
     if i + 4 <= s.len() {
-        return word_of(
-            byte_in(s, i),
-            byte_in(s, i + 1),
-            byte_in(s, i + 2),
-            byte_in(s, i + 3),
-        );
+        return four_in(s, i);
     }
     word_of(
         byte_at(s, i),
@@ -138,6 +146,13 @@ pub fn field16(s: &[u8], off: u32, width: u32) -> u16
     field(s, off, width) as u16
 }
 
+// Number k of the 16-bit numbers that s is made of.
+pub fn number_at(s: &[u8], k: u16) -> u16
+    ensures { λ r. ⌜ r ≡ fieldOf (now (s .entry)) (16 * k) 16 ⌝ }
+{
+    field16(s, 16 * (k as u32), 16)
+}
+
 // Two fields, one behind the other.
 pub struct Two {
     pub first: u16,
@@ -164,6 +179,62 @@ pub fn flag(s: &[u8], off: u32) -> bool
     field(s, off, 1) == 1
 }
 
+// The 64 bits from byte i on, where there are as many.
+fn eight_in(s: &[u8], i: usize) -> u64
+    requires { ⌜ i + 8 ≤ length (now s) ⌝ }
+    ensures { λ r. ⌜ r ≡ fieldOf (now (s .entry)) (8 * i) 64 ⌝ }
+{
+    joined(four_in(s, i), four_in(s, i + 4), 32, 32)
+}
+
+// The 64 bits from byte i on.
+pub fn eight_at(s: &[u8], i: usize) -> u64
+    requires { ⌜ i < 18446744073709551608 ⌝ }
+    ensures { λ r. ⌜ r ≡ fieldOf (now (s .entry)) (8 * i) 64 ⌝ }
+{
+    if i + 8 <= s.len() {
+        return eight_in(s, i);
+    }
+    joined(word_at(s, i), word_at(s, i + 4), 32, 32)
+}
+
+// How many of the first n bytes two strings begin alike in, as far as eight bytes at a time tell.
+fn alike_eights(a: &[u8], b: &[u8], n: usize) -> usize
+    requires { ⌜ (n ≤ length (now a)) × (n ≤ length (now b)) ⌝ }
+    ensures { λ r. ⌜ (r ≤ n) × (commonStart (now (a .entry)) (now (b .entry)) ≡ r + commonStart (drop r (now (a .entry))) (drop r (now (b .entry)))) ⌝ }
+{
+    let mut i: usize = 0;
+    while i + 8 <= n {
+        if eight_in(a, i) != eight_in(b, i) {
+            return i;
+        }
+        i += 8;
+    }
+    i
+}
+
+// The length of the shorter string.
+fn shorter(a: &[u8], b: &[u8]) -> usize
+    ensures { λ r. ⌜ r ≡ min (length (now (a .entry))) (length (now (b .entry))) ⌝ }
+{
+    if a.len() < b.len() { a.len() } else { b.len() }
+}
+
+// How many bytes two strings begin alike in.
+pub fn common_start(a: &[u8], b: &[u8]) -> usize
+    ensures { λ r. ⌜ r ≡ commonStart (now (a .entry)) (now (b .entry)) ⌝ }
+{
+    let n = shorter(a, b);
+    let mut i = alike_eights(a, b, n);
+    while i < n {
+        if a[i] != b[i] {
+            return i;
+        }
+        i += 1;
+    }
+    i
+}
+
 // Whether two byte strings are equal.
 pub fn same_bytes(a: &[u8], b: &[u8]) -> bool
     ensures { λ r. ⌜ r ≡ same (now (a .entry)) (now (b .entry)) ⌝ }
@@ -171,18 +242,11 @@ pub fn same_bytes(a: &[u8], b: &[u8]) -> bool
     if a.len() != b.len() {
         return false;
     }
-    let mut i: usize = 0;
-    while i < a.len() {
-        if a[i] != b[i] {
-            return false;
-        }
-        i += 1;
-    }
-    true
+    common_start(a, b) == a.len()
 }
 
 // The `len` bytes from byte `start` on, or as many as there are.
-pub fn part_of(s: &[u8], start: u16, len: u16) -> &[u8]
+pub fn part_of(s: &[u8], start: u32, len: u32) -> &[u8]
     ensures { λ r. ⌜ now r ≡ part (now (s .entry)) start len ⌝ }
 {
     let a = start as usize;
@@ -196,16 +260,10 @@ pub fn part_of(s: &[u8], start: u16, len: u16) -> &[u8]
     &s[a..e]
 }
 
-// The high byte of a 16-bit number.
-pub fn high_byte(x: u16) -> u8
-    ensures { λ r. ⌜ r ≡ highByte x ⌝ }
+// Byte k of a number, from its least significant on.
+pub fn byte_of(x: u32, k: u32) -> u8
+    requires { ⌜ k < 4 ⌝ }
+    ensures { λ r. ⌜ r ≡ x / 256 ^ k % 256 ⌝ }
 {
-    (x >> 8) as u8
-}
-
-// The low byte of a 16-bit number.
-pub fn low_byte(x: u16) -> u8
-    ensures { λ r. ⌜ r ≡ lowByte x ⌝ }
-{
-    (x & 255) as u8
+    ((x >> (8 * k)) & 255) as u8
 }

@@ -1,10 +1,10 @@
--- The kinds of path by number, as the code goes through them.
+-- The kinds of path one after another, as the code goes through them.
 use Prim.Native.Nat.{ℕ}
-use mathlib.Core.Bool.{cond}
-use lib.Dec.{eqb}
-use Rattle.csdl.specs.Path.{Kind}
-use Rattle.csdl.specs.Path.Kind.{partner, key, dependent, principal, binding, target}
+use lib.ListN.{getD}
+use Rattle.csdl.specs.Path.{kinds}
+use Rattle.csdl.specs.declared.PathKind.{PathKind}
+use Rattle.csdl.specs.declared.PathKind.the-variants.{Target}
 
-unfoldable pub kindOf : ℕ → Kind
-kindOf n =
-    cond (eqb n 0) partner (cond (eqb n 1) key (cond (eqb n 2) dependent (cond (eqb n 3) principal (cond (eqb n 4) binding target))))
+-- The n-th of the list.
+unfoldable pub kindAt : ℕ → PathKind
+kindAt n = getD kinds n Target

@@ -1,15 +1,11 @@
 -- The codes of a path, as loops go through them. Assumes nothing.
-use Prim.Native.Nat.{ℕ, zero, suc, _+_, _-_, _≤_, _<_}
-use mathlib.Core.Path.{_≡_, refl, sym, _∙_}
+use Prim.Native.Nat.{ℕ, zero, suc, _-_, _≤_, _<_}
+use mathlib.Core.Path.{_≡_, refl}
 use mathlib.Core.List.{List}
-use mathlib.Core.Bool.{Bool, true, false, cond}
-use native.Mathlib.Omega.{arith}
 use lib.ListN.{getD}
 use borrow.Author.Tests.{le-leb, lt-leb}
-use Rattle.path_resolution.specs.Resolution.{castCode, lastName}
-
-less-one : (n : ℕ) → suc n - 1 ≡ n
-less-one n = omega arith
+use Rattle.csdl.proofs.Logic.{less-one}
+use Rattle.path_resolution.specs.Resolution.{lastName}
 
 module _ (codes : List ℕ) where
   pub name-none : (n : ℕ) → n ≡ 0 → lastName codes n ≡ 0

@@ -1,21 +1,16 @@
 -- Tables of a function as lists, and a path walked segment by segment. Assumes nothing.
-use Prim.Native.Nat.{ℕ, zero, suc, _+_, _-_, _≤_, _<_}
-use mathlib.Core.Path.{_≡_, refl, sym, _∙_, ap}
-use mathlib.Core.List.{List, [], _∷_}
+use Prim.Native.Nat.{ℕ, zero, suc, _+_, _-_}
+use mathlib.Core.Path.{_≡_, refl, ap}
+use mathlib.Core.List.{_∷_}
 use mathlib.Core.Bool.{Bool, true, false, cond, _&&_, _||_, and-true}
-use native.Mathlib.Nat.{add-zero, not-suc-le-zero}
+use native.Mathlib.Nat.{add-zero}
 use native.Mathlib.Numerals.{add-one}
 use native.Mathlib.Omega.{arith}
 use Rattle.csdl.specs.Search.{tab, anyFrom, some, butLast, lastOr}
 use Rattle.csdl.specs.Path.{Segment, Step, alongAll, alongEnd, along}
+use Rattle.csdl.proofs.Logic.{tab-same}
 
 -- ---- tables
-module _ {A : Type 0} (g h : ℕ → A) where
-  pub tab-same : (i n : ℕ) → ((k : ℕ) → i ≤ k → k < i + n → g k ≡ h k) → tab g i n ≡ tab h i n
-  unfolding tab
-  tab-same i zero e = refl
-  tab-same i (suc n) e = rw (e i (omega arith) (omega arith), tab-same (i + 1) n (λ k a b. e k (omega arith) (omega arith)))
-
 module _ {A : Type 0} (g : ℕ → A) where
   pub tab-shift : (i n : ℕ) → tab g (i + 1) n ≡ tab (λ k. g (k + 1)) i n
   unfolding tab
@@ -44,11 +39,6 @@ pub some-tab : {A : Type 0} (f : A → Bool) (g : ℕ → A) (i n : ℕ) → som
 unfolding tab some anyFrom
 some-tab f g i zero = refl
 some-tab f g i (suc n) = rw (or-cond, some-tab f g (i + 1) n)
-
-pub any-same : (f g : ℕ → Bool) (i n : ℕ) → ((k : ℕ) → i ≤ k → k < i + n → f k ≡ g k) → anyFrom f i n ≡ anyFrom g i n
-unfolding anyFrom
-any-same f g i zero e = refl
-any-same f g i (suc n) e = rw (e i (omega arith) (omega arith), any-same f g (i + 1) n (λ k a b. e k (omega arith) (omega arith)))
 
 -- ---- a path walked: one segment more, and what is made of each segment
 module _ (to : ℕ → Segment → ℕ) (seg : ℕ → Segment) where

@@ -11,14 +11,14 @@ use lib.ListN.{length, getD, set, length-set, replicate, length-replicate, getD-
 use lib.Seq.{getD-set-same, getD-set-other}
 use borrow.Author.Tests.{le-leb, lt-leb, lt-ltb, le-ltb, eqb-true, eqb-false}
 use borrow.Author.Count.{below-more}
+use Rattle.csdl.proofs.Logic.{below-or-not}
 use Rattle.csdl.specs.Search.{tab}
 use Rattle.csdl.specs.Model.{Model}
 use Rattle.csdl.specs.Path.{segmentAt, stepAt, movesTo, resolvesAt, resolves, endOf, alongAll, alongEnd}
 use Rattle.csdl.specs.Verdict.{stepCode}
 use Rattle.path_resolution.specs.Resolution.{ResolvedTo, prefix, stepNo, codeAt, codesTo, resolvedCount}
-use Rattle.name_classes.proofs.Sorting.{split}
 use Rattle.name_classes.proofs.Counting.{count-front}
-use Rattle.lookup.proofs.Tables.{is-tab}
+use Rattle.type_hierarchy.proofs.Tables.{is-tab}
 use Rattle.path_resolution.proofs.Laws.{end-more, all-more}
 
 most-next : (b : Bool) (taken k : ℕ) → taken ≤ k → cond b (k + 1) taken ≤ k + 1
@@ -93,7 +93,7 @@ module _ (m : Model) (start first : ℕ) where
     unfolding codesTo
     codes-are =
         is-tab (λ k. cond (ltb k count) (codeAt m start first k) 0) 16 codes (t .size)
-        (λ k h. split k count (λ l. rw (lt-ltb k count l) (t .code k l)) (λ l. rw (le-ltb k count l) (t .rest k l h)))
+        (λ k h. below-or-not k count (λ l. rw (lt-ltb k count l) (t .code k l)) (λ l. rw (le-ltb k count l) (t .rest k l h)))
 
     taken-is : taken ≡ resolvedCount m start first count
     unfolding resolvedCount

@@ -8,6 +8,7 @@ use lib.ListN.{length, getD}
 use Rattle.csdl.specs.Search.{tab, anyFrom, countFrom}
 use Rattle.csdl.specs.Model.{Model}
 use Rattle.csdl.specs.Path.{Step, Segment, segmentAt, stepAt, resolves, endOf}
+use Rattle.csdl.specs.Path.Step.{nothing}
 use Rattle.csdl.specs.Verdict.{stepCode}
 
 -- The first k segments of the path that starts at segment `first`.
@@ -21,7 +22,8 @@ stepNo m start first k = stepAt m (endOf m start (prefix m first k)) (segmentAt 
 unfoldable pub codeAt : Model → ℕ → ℕ → ℕ → ℕ
 codeAt m start first k = stepCode (stepNo m start first k)
 
--- Tests of a code: a cast; a property that passes the test; a property that does not. The property of a code, 0 for a cast.
+-- Tests of a code: no property, which under rule 14 is a cast; a property that passes the test; a property that does not. The property of
+-- a code, 0 where it is none.
 abbrev pub castCode : ℕ → Bool
 castCode c = leb 32768 c
 
@@ -34,9 +36,9 @@ otherCode test c = ltb c 32768 && not (test c)
 abbrev pub numberOf : ℕ → ℕ
 numberOf c = cond (ltb c 32768) c 0
 
--- The last of n codes; that of a cast to type 0 where there is none.
+-- The last of n codes; that of nothing where there is none.
 unfoldable pub lastCode : List ℕ → ℕ → ℕ
-lastCode codes n = cond (eqb n 0) 32768 (getD codes (n - 1) 0)
+lastCode codes n = cond (eqb n 0) (stepCode nothing) (getD codes (n - 1) 0)
 
 -- The type reference that a code moves to, and the one at the end of n codes, from type `start` on.
 unfoldable pub codeTo : Model → ℕ → ℕ

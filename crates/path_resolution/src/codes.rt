@@ -46,13 +46,13 @@ pub fn has_cast(codes: &[u32], count: u16) -> bool
     false
 }
 
-// The last of the first `count` codes; that of a cast to type 0 where there is none.
+// The last of the first `count` codes; that of nothing where there is none.
 pub fn last_code(codes: &[u32], count: u16) -> u32
     requires { ⌜ (count < 16) × (length (now codes) ≡ 16) ⌝ }
     ensures { λ r. ⌜ r ≡ lastCode (now (codes .entry)) count ⌝ }
 {
     if count == 0 {
-        return 32768;
+        return 32832;
     }
     codes[(count - 1) as usize]
 }

@@ -4,7 +4,7 @@ ghost use mathlib.Core.List.{[]};
 ghost use mathlib.Core.Bool.{cond, _&&_};
 ghost use Prim.Native.Nat.{_<_, _-_, _+_};
 ghost use lib.Dec.{eqb};
-ghost use Rattle.lookup.specs.AncestorSets.{setsOf};
+ghost use Rattle.type_hierarchy.specs.AncestorSets.{setsOf};
 ghost use Rattle.lookup.specs.Index.{Indexed};
 ghost use Rattle.csdl.specs.Model.{modelOf};
 ghost use Rattle.csdl.specs.Find as find;
@@ -16,7 +16,6 @@ use crate::wide::ancestor_or_self;
 use crate::wide::structured;
 use lookup::names::find_on;
 use lookup::texts::segment_text;
-use model_image::fields::less_one;
 use model_image::properties::property_type_ref;
 use model_image::segments::segment_cast;
 use model_image::segments::segment_type;
@@ -27,7 +26,8 @@ struct Here {
     g: u16,
 }
 
-// One segment resolved: whether it does, its code, and the type reference that it moves to.
+// One segment resolved: whether it does, its code, and the type reference that it moves to; for a name that means nothing, the code and
+// the reference that say so.
 struct Move {
     ok: bool,
     code: u32,
@@ -95,8 +95,15 @@ fn move_at(
         segment_text(segments, names, g),
         t,
     );
-    let p = less_one(found);
-    let ok = structured(types, t) & (found != 0);
+    if found == 0 {
+        return Move {
+            ok: false,
+            code: 32832,
+            to: 64,
+        };
+    }
+    let p = found - 1;
+    let ok = structured(types, t);
     let to = property_type_ref(properties, p);
     Move {
         ok,

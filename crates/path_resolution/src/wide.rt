@@ -13,7 +13,7 @@ pub fn structured(types: &[u8], x: u32) -> bool
     if x >= 64 {
         return false;
     }
-    lookup::kinds::structured(types, x as u16)
+    type_hierarchy::kinds::structured(types, x as u16)
 }
 
 // Whether t is a or derives from it.
@@ -30,5 +30,5 @@ pub fn ancestor_or_self(types: &[u8], a: u32, t: u32) -> bool
     if a >= 128 {
         return false;
     }
-    lookup::bases::ancestor_or_self(types, a as u16, t as u16)
+    type_hierarchy::bases::ancestor_or_self(types, a as u16, t as u16)
 }

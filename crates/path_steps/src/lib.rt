@@ -8,9 +8,6 @@ ghost use Rattle.csdl.specs.Paths.{keyCode, keyType, keyStep, keyEnd, constrain
 ghost use Rattle.path_resolution.specs.Resolution.{isCode, numberOf};
 ghost use Rattle.path_steps.specs.Steps.{stepTest, anyCode, stepOrEnd};
 ghost use Rattle.model_image.specs.Limits.{FewTypes};
-use lookup::kinds::of_kind;
-use lookup::steps::complex_step;
-use lookup::steps::contain_step;
 use model_image::fields::less_one;
 use model_image::properties::property_collection;
 use model_image::properties::property_contains;
@@ -19,6 +16,9 @@ use model_image::properties::property_nullable;
 use model_image::properties::property_type_ref;
 use model_image::types::type_underlying;
 use path_resolution::codes::last_code;
+use type_hierarchy::kinds::of_kind;
+use type_hierarchy::steps::complex_step;
+use type_hierarchy::steps::contain_step;
 
 // What a step is tested for: that it may not stand in a key's path before the last step, or as the last; not in a constraint's
 // path before the last; that it is a navigation property, one without containment; that it may not stand in a target path before

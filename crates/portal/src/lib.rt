@@ -3,26 +3,19 @@
 // segments, an accepted instance is 0, and a walk is results * 65536 + opened slots. outside/c/tour_model.h says the same for C.
 // Each contract has the equations of the word and of the buffer, and the promise that follows from them, clause by clause: crates/demands/specs/Demands.
 ghost use mathlib.Core.Path.{_≡_};
-ghost use Prim.Native.Nat.{_+_, _*_, _≤_};
+ghost use Prim.Native.Nat.{_≤_};
 ghost use Rattle.csdl.specs.Conforms.{instanceAnswer};
 ghost use Rattle.csdl.specs.Instance.{instanceIn};
 ghost use Rattle.csdl.specs.Verdict.{modelAnswer, modelBuffer};
 ghost use Rattle.csdl.specs.Walk.{walkAnswer, walkBuffer};
 ghost use Rattle.demands.specs.Word.{word, upper, openedIn};
 ghost use Rattle.demands.specs.Demands.{ModelPromise, InstancePromise, WalkPromise};
-use csdl::InstanceAnswer;
-use csdl::ModelAnswer;
-use csdl::WalkAnswer;
+use demands::instance_word;
+use demands::model_word;
+use demands::walk_word;
 use instance_check::check_instance;
 use model_check::check_model;
 use walk::walk;
-
-// A refusal's two numbers in one.
-fn refusal(rule: u16, place: u16) -> u64
-    ensures { λ r. ⌜ r ≡ rule * 4294967296 + place ⌝ }
-{
-    (rule as u64) * 4294967296 + (place as u64)
-}
 
 // Checks a model; an accepted one has the resolution of its segments written into the buffer, two bytes each.
 #[no_mangle]
@@ -31,11 +24,7 @@ pub extern "C" fn tour_check_model(image: &[u8], resolution: &mut [u8]) -> u64
     ensures { λ r. ⌜ now (resolution .exit) ≡ modelBuffer (now (image .entry)) (now (resolution .entry)) ⌝ }
     ensures { λ r. ⌜ ModelPromise (now (image .entry)) (now (resolution .entry)) r (now (resolution .exit)) ⌝ }
 {
-    let answer = check_model(image, resolution);
-    match answer {
-        ModelAnswer::Accepted { segments } => segments as u64,
-        ModelAnswer::Refused { rule, place } => refusal(rule, place),
-    }
+    model_word(check_model(image, resolution))
 }
 
 // Checks an instance against its model.
@@ -44,11 +33,7 @@ pub extern "C" fn tour_check_instance(model: &[u8], instance: &[u8]) -> u64
     ensures { λ r. ⌜ r ≡ word (instanceAnswer (now (model .entry)) (now (instance .entry))) ⌝ }
     ensures { λ r. ⌜ InstancePromise (now (model .entry)) (now (instance .entry)) r ⌝ }
 {
-    let answer = check_instance(model, instance);
-    match answer {
-        InstanceAnswer::Conforms => 0,
-        InstanceAnswer::Refused { rule, place } => refusal(rule, place),
-    }
+    instance_word(check_instance(model, instance))
 }
 
 // Walks a path of the record at a place from a node; the results are written into the buffer as items.
@@ -66,12 +51,5 @@ pub extern "C" fn tour_walk(
     ensures { λ r. ⌜ (upper r ≡ 0 → openedIn r ≤ instanceIn (now (instance .entry)) .slots) ⌝ }
     ensures { λ r. ⌜ WalkPromise (now (model .entry)) (now (instance .entry)) place path node (now (results .entry)) r (now (results .exit)) ⌝ }
 {
-    let answer = walk(model, instance, place, path, node, results);
-    match answer {
-        WalkAnswer::Walked {
-            results: count,
-            opened,
-        } => (count as u64) * 65536 + (opened as u64),
-        WalkAnswer::Refused { rule, place: at } => refusal(rule, at),
-    }
+    walk_word(walk(model, instance, place, path, node, results))
 }

@@ -7,10 +7,8 @@ use native.Mathlib.Omega.{arith}
 use lib.ListN.{getD}
 use borrow.Author.Tests.{leb-false, lt-ltb}
 use Rattle.csdl.specs.Search.{anyFrom}
+use Rattle.csdl.proofs.Logic.{less-one}
 use Rattle.path_resolution.specs.Resolution.{castCode, isCode, lastName, formOf}
-
-less-one : (n : ℕ) → suc n - 1 ≡ n
-less-one n = omega arith
 
 -- the code of the last name is a property's
 name-low : (codes : List ℕ) (n r : ℕ) → lastName codes n ≡ r → 0 < r → getD codes (r - 1) 0 < 32768

@@ -1,4 +1,4 @@
--- Rule 19, asked in two parts, at the tables that each reads. Assumes nothing.
+-- Rule 19, asked in two tests, at the tables that each reads. Assumes nothing.
 use Prim.Native.Nat.{ℕ}
 use mathlib.Core.Path.{_≡_, refl}
 use mathlib.Core.List.{List, []}
@@ -6,12 +6,12 @@ use mathlib.Core.Bool.{Bool, true, false, _||_}
 use Rattle.csdl.specs.Model.{Model, modelOf}
 use Rattle.csdl.specs.Find.{ancestorOrSelf, ancestor, ofKind, complexStep, containStep}
 use Rattle.csdl.specs.Path.{segmentAt, pathOf, startOf}
-use Rattle.csdl.specs.Path.Kind.{binding, target}
+use Rattle.csdl.specs.declared.PathKind.the-variants.{Binding, Target}
 use Rattle.csdl.specs.Paths.{nonContainment, targetStep, binding19d, binding19e}
 use Rattle.path_resolution.specs.Resolution.{codeTo, codeEnd}
 use Rattle.path_steps.specs.Steps.{stepTest}
-use Rattle.rules_bindings.specs.Runs.{pathRun, runEnd}
-use Rattle.rules_bindings.specs.Bindings.{bindingCodes, targetCodes, endsApart, bindingMisled, bindingCoded}
+use Rattle.rules_bindings.specs.Runs.{runEnd}
+use Rattle.rules_bindings.specs.Bindings.{bindingCodes, targetCodes, endsApart, pathFails, targetFails, bindingMisled, bindingCoded}
 
 or-last : (a d e t x : Bool) → (a || e || t || x || d) ≡ (a || d || e || t || x)
 or-last true d e t x = refl
@@ -27,8 +27,7 @@ or-last false false false false false = refl
 both : (m : Model) (codes : List ℕ) (b : ℕ) → (bindingMisled m codes b || binding19d m b) ≡ bindingCoded m codes b
 unfolding bindingMisled bindingCoded
 both m codes b =
-    or-last (bindingCodes m (pathRun m codes binding b) (pathOf m binding b .count)) (binding19d m b) (binding19e m b)
-    (targetCodes m (pathRun m codes target b) (pathOf m target b .count)) (endsApart m (runEnd m codes binding b) (runEnd m codes target b))
+    or-last (pathFails m codes b) (binding19d m b) (binding19e m b) (targetFails m codes b) (endsApart m (runEnd m codes Binding b) (runEnd m codes Target b))
 
 module _ (ty pr ch bi sg nm codes : List ℕ) (b : ℕ) where
   pub binding-split : (bindingMisled (modelOf [] ty pr [] [] ch bi [] []) codes b || binding19d (modelOf [] [] [] [] [] [] bi sg nm) b) ≡ bindingCoded (modelOf [] ty pr [] [] ch bi sg nm) codes b

@@ -8,7 +8,7 @@ use Rattle.csdl.specs.Search.{anyFrom}
 use Rattle.csdl.specs.Model.{Model}
 use Rattle.csdl.specs.Find.{ancestorOrSelf}
 use Rattle.csdl.specs.Path.{pathOf, segmentsOf, sameSegments}
-use Rattle.csdl.specs.Path.Kind.{binding, target}
+use Rattle.csdl.specs.declared.PathKind.the-variants.{Binding, Target}
 use Rattle.csdl.specs.Paths.{nonContainment, binding19d, binding19e}
 use Rattle.path_resolution.specs.Resolution.{castCode, lastName, formOf}
 use Rattle.path_steps.specs.declared.StepTest.the-variants.{NoTargetStep, NoTargetEnd}
@@ -31,19 +31,26 @@ targetCodes m codes n = anyFrom (λ k. castCode (getD codes k 0)) 0 n || stepOrE
 unfoldable pub endsApart : Model → ℕ → ℕ → Bool
 endsApart m a b = not (ancestorOrSelf m a b) && not (ancestorOrSelf m b a)
 
+-- 19a to 19c, and 19f, 19g, of the paths of binding b.
+abbrev pub pathFails : Model → List ℕ → ℕ → Bool
+pathFails m codes b = bindingCodes m (pathRun m codes Binding b) (pathOf m Binding b .count)
+
+abbrev pub targetFails : Model → List ℕ → ℕ → Bool
+targetFails m codes b = targetCodes m (pathRun m codes Target b) (pathOf m Target b .count)
+
 -- 19a to 19c, 19e to 19h of binding b.
 unfoldable pub bindingMisled : Model → List ℕ → ℕ → Bool
 bindingMisled m codes b =
-    bindingCodes m (pathRun m codes binding b) (pathOf m binding b .count)
+    pathFails m codes b
     || binding19e m b
-    || targetCodes m (pathRun m codes target b) (pathOf m target b .count)
-    || endsApart m (runEnd m codes binding b) (runEnd m codes target b)
+    || targetFails m codes b
+    || endsApart m (runEnd m codes Binding b) (runEnd m codes Target b)
 
 -- Rule 19 of binding b.
 unfoldable pub bindingCoded : Model → List ℕ → ℕ → Bool
 bindingCoded m codes b =
-    bindingCodes m (pathRun m codes binding b) (pathOf m binding b .count)
+    pathFails m codes b
     || binding19d m b
     || binding19e m b
-    || targetCodes m (pathRun m codes target b) (pathOf m target b .count)
-    || endsApart m (runEnd m codes binding b) (runEnd m codes target b)
+    || targetFails m codes b
+    || endsApart m (runEnd m codes Binding b) (runEnd m codes Target b)

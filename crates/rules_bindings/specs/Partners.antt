@@ -7,15 +7,15 @@ use Rattle.csdl.specs.Search.{anyFrom}
 use Rattle.csdl.specs.Model.{Model, present}
 use Rattle.csdl.specs.Find.{ancestorOrSelf, top}
 use Rattle.csdl.specs.Path.{pathOf}
-use Rattle.csdl.specs.Path.Kind.{partner}
+use Rattle.csdl.specs.declared.PathKind.the-variants.{Partner}
 use Rattle.path_resolution.specs.Resolution.{isCode, numberOf, lastCode}
 use Rattle.path_steps.specs.declared.StepTest.the-variants.{Navigates}
 use Rattle.path_steps.specs.Steps.{stepTest, anyCode}
 use Rattle.rules_bindings.specs.Runs.{pathRun}
 
--- The code of the last step of the partner path of p; that of a cast where it has none.
+-- The code of the last step of the partner path of p; that of nothing where it has none.
 unfoldable pub partnerLast : Model → List ℕ → ℕ → ℕ
-partnerLast m codes p = lastCode (pathRun m codes partner p) (pathOf m partner p .count)
+partnerLast m codes p = lastCode (pathRun m codes Partner p) (pathOf m Partner p .count)
 
 -- 17a, 17b, of the n codes of a path.
 unfoldable pub partnerCodes : Model → List ℕ → ℕ → Bool
@@ -43,4 +43,4 @@ partnerEnds m codes p q = not (ancestorOrSelf m (m .typeRef q) (m .owner p)) || 
 -- Rule 17 of property p.
 unfoldable pub partnerCoded : Model → List ℕ → ℕ → Bool
 partnerCoded m codes p =
-    present (m .partner p) && (partnerCodes m (pathRun m codes partner p) (pathOf m partner p .count) || partnerEnds m codes p (numberOf (partnerLast m codes p)))
+    present (m .partner p) && (partnerCodes m (pathRun m codes Partner p) (pathOf m Partner p .count) || partnerEnds m codes p (numberOf (partnerLast m codes p)))

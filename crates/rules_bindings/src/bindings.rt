@@ -5,10 +5,12 @@ ghost use Prim.Native.Nat.{_+_, _≤_};
 ghost use Rattle.csdl.specs.Search.{firstFrom};
 ghost use Rattle.csdl.specs.Tables.{bindingCount};
 ghost use Rattle.csdl.specs.Model.{modelOf};
+ghost use Rattle.csdl.specs.declared.PathKind.the-variants.{Binding, Target};
 ghost use Rattle.csdl.specs.Paths.{binding19d, binding19e};
 ghost use Rattle.rules_names.specs.Digests.{Fingerprinted};
 ghost use Rattle.rules_bindings.specs.Digests.{bindingFingerprint};
-ghost use Rattle.rules_bindings.specs.Bindings.{againBound, bindingMisled, bindingCoded};
+ghost use Rattle.rules_bindings.specs.Bindings.{againBound, pathFails, targetFails, bindingMisled, bindingCoded};
+ghost use Rattle.rules_bindings.specs.Runs.{runEnd};
 ghost use Rattle.model_image.specs.Limits.{FewBindings, FewTypes};
 use crate::forms::binding_codes;
 use crate::forms::ends_apart;
@@ -93,6 +95,58 @@ fn target_under_set(children: &[u8], bindings: &[u8], b: u16) -> bool
     (run.count != 0) & !child_singleton(children, binding_target(bindings, b))
 }
 
+// Whether a path of a binding has a form that rule 19 refuses, and the type reference at its end.
+struct Way {
+    fails: bool,
+    end: u32,
+}
+
+// The path of binding b (19a to 19c).
+fn path_way(
+    types: &[u8],
+    properties: &[u8],
+    children: &[u8],
+    bindings: &[u8],
+    codes: &[u32],
+    b: u16,
+) -> Way
+    requires { ⌜ FewTypes (now types) ⌝ }
+    ensures { λ r. ⌜ (r .fails ≡ pathFails (modelOf [] (now (types .entry)) (now (properties .entry)) [] [] (now (children .entry)) (now (bindings .entry)) [] []) (now (codes .entry)) b) × (r .end ≡ runEnd (modelOf [] (now (types .entry)) (now (properties .entry)) [] [] (now (children .entry)) (now (bindings .entry)) [] []) (now (codes .entry)) Binding b) ⌝ }
+{
+    let path = binding_path(bindings, b);
+    let run = run_of(codes, path.first, path.count);
+    let fails = binding_codes(types, properties, &run, path.count);
+    let start = child_type(children, binding_child(bindings, b));
+    let end = end_of(properties, &run, start, path.count);
+    Way {
+        fails: fails,
+        end: end,
+    }
+}
+
+// Its target path (19f, 19g).
+fn target_way(
+    types: &[u8],
+    properties: &[u8],
+    children: &[u8],
+    bindings: &[u8],
+    codes: &[u32],
+    b: u16,
+) -> Way
+    requires { ⌜ FewTypes (now types) ⌝ }
+    ensures { λ r. ⌜ (r .fails ≡ targetFails (modelOf [] (now (types .entry)) (now (properties .entry)) [] [] (now (children .entry)) (now (bindings .entry)) [] []) (now (codes .entry)) b) × (r .end ≡ runEnd (modelOf [] (now (types .entry)) (now (properties .entry)) [] [] (now (children .entry)) (now (bindings .entry)) [] []) (now (codes .entry)) Target b) ⌝ }
+{
+    let path = binding_target_path(bindings, b);
+    let run = run_of(codes, path.first, path.count);
+    let fails = target_codes(types, properties, &run, path.count);
+    let start = child_type(children, binding_target(bindings, b));
+    let end = end_of(properties, &run, start, path.count);
+    Way {
+        fails: fails,
+        end: end,
+    }
+}
+
 // Whether the paths of binding b break rule 19 (all of it but 19d), by the codes of all segments.
 fn binding_misled(
     types: &[u8],
@@ -105,17 +159,12 @@ fn binding_misled(
     requires { ⌜ FewTypes (now types) ⌝ }
     ensures { λ r. ⌜ r ≡ bindingMisled (modelOf [] (now (types .entry)) (now (properties .entry)) [] [] (now (children .entry)) (now (bindings .entry)) [] []) (now (codes .entry)) b ⌝ }
 {
-    let path = binding_path(bindings, b);
-    let run = run_of(codes, path.first, path.count);
-    let fails = binding_codes(types, properties, &run, path.count);
-    let start = child_type(children, binding_child(bindings, b));
-    let end = end_of(properties, &run, start, path.count);
-    let goal = binding_target_path(bindings, b);
-    let goal_run = run_of(codes, goal.first, goal.count);
-    let goal_fails = target_codes(types, properties, &goal_run, goal.count);
-    let goal_start = child_type(children, binding_target(bindings, b));
-    let goal_end = end_of(properties, &goal_run, goal_start, goal.count);
-    fails | target_under_set(children, bindings, b) | goal_fails | ends_apart(types, end, goal_end)
+    let path = path_way(types, properties, children, bindings, codes, b);
+    let goal = target_way(types, properties, children, bindings, codes, b);
+    path.fails
+        | target_under_set(children, bindings, b)
+        | goal.fails
+        | ends_apart(types, path.end, goal.end)
 }
 
 // The first binding that breaks rule 19, by the codes of all segments: 0 for none, else its number plus 1.

@@ -6,8 +6,6 @@ ghost use Rattle.csdl.specs.Tables.{propertyCount, childCount};
 ghost use Rattle.csdl.specs.Model.{modelOf};
 ghost use Rattle.csdl.specs.Paths.{property18a, child18};
 ghost use Rattle.model_image.specs.Limits.{FewChildren, FewKeys, FewProperties, FewTypes};
-use lookup::key_owners::has_key;
-use lookup::kinds::of_kind;
 use model_image::children::child_count;
 use model_image::children::child_nullable;
 use model_image::children::child_singleton;
@@ -17,6 +15,8 @@ use model_image::properties::property_contains;
 use model_image::properties::property_count;
 use model_image::properties::property_navigation;
 use model_image::properties::property_type_ref;
+use type_hierarchy::key_owners::has_key;
+use type_hierarchy::kinds::of_kind;
 
 // Whether p is a contained collection of a type that has no key (18a).
 fn property_18(types: &[u8], properties: &[u8], keys: &[u8], p: u16) -> bool

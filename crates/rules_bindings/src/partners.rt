@@ -9,13 +9,9 @@ ghost use Rattle.csdl.specs.Search.{firstFrom};
 ghost use Rattle.csdl.specs.Tables.{propertyCount, propertyOwner, propertyPartner};
 ghost use Rattle.csdl.specs.Model.{modelOf, present};
 ghost use Rattle.csdl.specs.Find.{ancestorOrSelf};
-ghost use Rattle.lookup.specs.Sets.{Holds};
+ghost use Rattle.type_hierarchy.specs.Sets.{Members};
 ghost use Rattle.rules_bindings.specs.Partners.{partnerLast, partnerCodes, otherPartner, containedPartner, otherContains, sharedContainment, partnerEnds, partnerCoded};
 ghost use Rattle.model_image.specs.Limits.{FewProperties, FewTypes};
-use lookup::ancestors::with_ancestors;
-use lookup::bases::ancestor_or_self;
-use lookup::bases::top;
-use lookup::type_sets::in_set;
 use model_image::fields::less_one;
 use model_image::properties::property_contains;
 use model_image::properties::property_count;
@@ -29,8 +25,12 @@ use path_steps::StepTest;
 use path_steps::any_code;
 use path_steps::code_test;
 use path_steps::number_of;
+use type_hierarchy::ancestors::with_ancestors;
+use type_hierarchy::bases::ancestor_or_self;
+use type_hierarchy::bases::top;
+use type_hierarchy::type_sets::in_set;
 
-// The code of the last step of the partner path of p; that of a cast where it has none.
+// The code of the last step of the partner path of p; that of nothing where it has none.
 fn partner_code(properties: &[u8], codes: &[u32], p: u16) -> u32
     ensures { λ r. ⌜ r ≡ partnerLast (modelOf [] [] (now (properties .entry)) [] [] [] [] [] []) (now (codes .entry)) p ⌝ }
 {
@@ -92,7 +92,7 @@ fn other_contained(
     p: u16,
     q: u16,
 ) -> bool
-    requires { ⌜ FewTypes (now types) × Holds 64 line (λ a. ancestorOrSelf (modelOf [] (now types) [] [] [] [] [] [] []) a (propertyOwner (now properties) p)) ⌝ }
+    requires { ⌜ FewTypes (now types) × Members 64 line (λ a. ancestorOrSelf (modelOf [] (now types) [] [] [] [] [] [] []) a (propertyOwner (now properties) p)) ⌝ }
     ensures { λ r. ⌜ r ≡ otherContains (modelOf [] (now (types .entry)) (now (properties .entry)) [] [] [] [] [] []) (now (codes .entry)) p q ⌝ }
 {
     if !other_with_partner(properties, p, q) {

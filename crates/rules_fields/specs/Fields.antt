@@ -1,9 +1,10 @@
--- A name and a path made of their two numbers, as the code holds them.
+-- A name and a path made of their two numbers, as the code has them.
 use Prim.Native.Nat.{ℕ}
-use Rattle.csdl.specs.Tables.{Name, Run}
+use Rattle.csdl.specs.Tables.{Name}
+use Rattle.csdl.specs.declared.Run.{Run}
 
 abbrev pub nameOf : ℕ → ℕ → Name
 nameOf start size = record { start = start; size = size }
 
-abbrev pub runOf : ℕ → ℕ → Run
-runOf first count = record { first = first; count = count }
+abbrev pub runFrom : ℕ → ℕ → Run
+runFrom first count = record { first = first; count = count }

@@ -5,9 +5,10 @@ ghost use Rattle.csdl.specs.Model.{modelOf};
 ghost use Rattle.csdl.specs.Image.{modelIn};
 ghost use Rattle.model_image.specs.Laid.{Laid};
 ghost use Rattle.csdl.specs.Form.{name4, optionalName4, path4, optionalPath4, reference4h, schema4, type4, property4, key4, constraint4, child4, binding4, segment4, rule4};
-ghost use Rattle.rules_fields.specs.Fields.{nameOf, runOf};
+ghost use Rattle.rules_fields.specs.Fields.{nameOf, runFrom};
 ghost use Rattle.model_image.specs.Limits.{FewSchemas, FewTypes, FewProperties, FewChildren, FewSegments};
 use csdl::Record;
+use csdl::Run;
 use model_image::bindings::binding_child;
 use model_image::bindings::binding_path;
 use model_image::bindings::binding_target;
@@ -19,7 +20,6 @@ use model_image::constraints::constraint_dependent;
 use model_image::constraints::constraint_principal;
 use model_image::constraints::constraint_property;
 use model_image::fields::Name;
-use model_image::fields::Run;
 use model_image::keys::key_alias;
 use model_image::keys::key_owner;
 use model_image::keys::key_path;
@@ -75,7 +75,7 @@ fn name_4(names: &[u8], n: Name) -> bool
 // Of a path that may be absent.
 fn optional_path_4(segments: &[u8], path: Run) -> bool
     requires { ⌜ FewSegments (now segments) ⌝ }
-    ensures { λ r. ⌜ r ≡ optionalPath4 (modelOf [] [] [] [] [] [] [] (now (segments .entry)) []) (runOf (path .first) (path .count)) ⌝ }
+    ensures { λ r. ⌜ r ≡ optionalPath4 (modelOf [] [] [] [] [] [] [] (now (segments .entry)) []) (runFrom (path .first) (path .count)) ⌝ }
 {
     let first = path.first;
     let count = path.count;
@@ -88,7 +88,7 @@ fn optional_path_4(segments: &[u8], path: Run) -> bool
 // Of a path that may not be absent.
 fn path_4(segments: &[u8], path: Run) -> bool
     requires { ⌜ FewSegments (now segments) ⌝ }
-    ensures { λ r. ⌜ r ≡ path4 (modelOf [] [] [] [] [] [] [] (now (segments .entry)) []) (runOf (path .first) (path .count)) ⌝ }
+    ensures { λ r. ⌜ r ≡ path4 (modelOf [] [] [] [] [] [] [] (now (segments .entry)) []) (runFrom (path .first) (path .count)) ⌝ }
 {
     let count = path.count;
     (count == 0) | optional_path_4(segments, path)
@@ -175,57 +175,114 @@ fn segment_4(types: &[u8], segments: &[u8], names: &[u8], g: u16) -> bool
     name_4(names, segment_name(segments, g))
 }
 
+// The same, of a record of the image.
+fn schema_in(image: &[u8], at: Layout, s: u16) -> bool
+    requires { ⌜ Laid (now image) at ⌝ }
+    ensures { λ r. ⌜ r ≡ schema4 (modelIn (now (image .entry))) s ⌝ }
+{
+    schema_4(schemas_of(image, at), names_of(image, at), s)
+}
+
+fn type_in(image: &[u8], at: Layout, t: u16) -> bool
+    requires { ⌜ Laid (now image) at ⌝ }
+    ensures { λ r. ⌜ r ≡ type4 (modelIn (now (image .entry))) t ⌝ }
+{
+    type_4(
+        schemas_of(image, at),
+        types_of(image, at),
+        names_of(image, at),
+        t,
+    )
+}
+
+fn property_in(image: &[u8], at: Layout, p: u16) -> bool
+    requires { ⌜ Laid (now image) at ⌝ }
+    ensures { λ r. ⌜ r ≡ property4 (modelIn (now (image .entry))) p ⌝ }
+{
+    property_4(
+        types_of(image, at),
+        properties_of(image, at),
+        segments_of(image, at),
+        names_of(image, at),
+        p,
+    )
+}
+
+fn key_in(image: &[u8], at: Layout, k: u16) -> bool
+    requires { ⌜ Laid (now image) at ⌝ }
+    ensures { λ r. ⌜ r ≡ key4 (modelIn (now (image .entry))) k ⌝ }
+{
+    key_4(
+        types_of(image, at),
+        keys_of(image, at),
+        segments_of(image, at),
+        names_of(image, at),
+        k,
+    )
+}
+
+fn constraint_in(image: &[u8], at: Layout, c: u16) -> bool
+    requires { ⌜ Laid (now image) at ⌝ }
+    ensures { λ r. ⌜ r ≡ constraint4 (modelIn (now (image .entry))) c ⌝ }
+{
+    constraint_4(
+        properties_of(image, at),
+        constraints_of(image, at),
+        segments_of(image, at),
+        c,
+    )
+}
+
+fn child_in(image: &[u8], at: Layout, h: u16) -> bool
+    requires { ⌜ Laid (now image) at ⌝ }
+    ensures { λ r. ⌜ r ≡ child4 (modelIn (now (image .entry))) h ⌝ }
+{
+    child_4(
+        types_of(image, at),
+        children_of(image, at),
+        names_of(image, at),
+        h,
+    )
+}
+
+fn binding_in(image: &[u8], at: Layout, b: u16) -> bool
+    requires { ⌜ Laid (now image) at ⌝ }
+    ensures { λ r. ⌜ r ≡ binding4 (modelIn (now (image .entry))) b ⌝ }
+{
+    binding_4(
+        children_of(image, at),
+        bindings_of(image, at),
+        segments_of(image, at),
+        b,
+    )
+}
+
+fn segment_in(image: &[u8], at: Layout, g: u16) -> bool
+    requires { ⌜ Laid (now image) at ⌝ }
+    ensures { λ r. ⌜ r ≡ segment4 (modelIn (now (image .entry))) g ⌝ }
+{
+    segment_4(
+        types_of(image, at),
+        segments_of(image, at),
+        names_of(image, at),
+        g,
+    )
+}
+
 // Rule 4 of a record.
 pub fn rule_4(image: &[u8], at: Layout, rec: Record) -> bool
     requires { ⌜ Laid (now image) at ⌝ }
     ensures { λ r. ⌜ r ≡ rule4 (modelIn (now (image .entry))) rec ⌝ }
 {
     match rec {
-        Record::OfSchema(s) => schema_4(schemas_of(image, at), names_of(image, at), s),
-        Record::OfType(t) => type_4(
-            schemas_of(image, at),
-            types_of(image, at),
-            names_of(image, at),
-            t,
-        ),
-        Record::OfProperty(p) => property_4(
-            types_of(image, at),
-            properties_of(image, at),
-            segments_of(image, at),
-            names_of(image, at),
-            p,
-        ),
-        Record::OfKey(k) => key_4(
-            types_of(image, at),
-            keys_of(image, at),
-            segments_of(image, at),
-            names_of(image, at),
-            k,
-        ),
-        Record::OfConstraint(c) => constraint_4(
-            properties_of(image, at),
-            constraints_of(image, at),
-            segments_of(image, at),
-            c,
-        ),
-        Record::OfChild(h) => child_4(
-            types_of(image, at),
-            children_of(image, at),
-            names_of(image, at),
-            h,
-        ),
-        Record::OfBinding(b) => binding_4(
-            children_of(image, at),
-            bindings_of(image, at),
-            segments_of(image, at),
-            b,
-        ),
-        Record::OfSegment(g) => segment_4(
-            types_of(image, at),
-            segments_of(image, at),
-            names_of(image, at),
-            g,
-        ),
+        Record::OfSchema(s) => schema_in(image, at, s),
+        Record::OfType(t) => type_in(image, at, t),
+        Record::OfProperty(p) => property_in(image, at, p),
+        Record::OfKey(k) => key_in(image, at, k),
+        Record::OfConstraint(c) => constraint_in(image, at, c),
+        Record::OfChild(h) => child_in(image, at, h),
+        Record::OfBinding(b) => binding_in(image, at, b),
+        Record::OfSegment(g) => segment_in(image, at, g),
         Record::Nowhere => false,
     }
 }

@@ -1,25 +1,16 @@
 -- Rule 16, of the codes of a constraint's paths and their last properties.
 use Prim.Native.Nat.{ℕ}
 use mathlib.Core.List.{List}
-use mathlib.Core.Bool.{Bool, cond, not, _&&_, _||_}
+use mathlib.Core.Bool.{Bool, not, _||_}
 use lib.ListN.{getD}
 use Rattle.csdl.specs.Search.{anyFrom}
-use Rattle.csdl.specs.Tables.{Run}
+use Rattle.csdl.specs.declared.Run.{Run}
 use Rattle.csdl.specs.Model.{Model}
-use Rattle.csdl.specs.Properties.{alike}
-use Rattle.csdl.specs.Paths.{sameShape, bothComplex}
+use Rattle.csdl.specs.Paths.{otherShape, otherNullable}
 use Rattle.path_resolution.specs.Resolution.{castCode, lastCode, numberOf}
 use Rattle.path_resolution.specs.Coded.{runOf}
 use Rattle.path_steps.specs.declared.StepTest.the-variants.{NoConstraintStep, Navigates}
 use Rattle.path_steps.specs.Steps.{stepOrEnd}
-
--- 16e
-unfoldable pub otherShape : Model → ℕ → ℕ → Bool
-otherShape m d r = not (sameShape m d r) && not (bothComplex m d r)
-
--- 16f
-unfoldable pub otherNullable : Model → ℕ → ℕ → ℕ → Bool
-otherNullable m p d r = not (alike (m .nullable d) (m .nullable p || m .nullable r))
 
 -- 16a, 16e, 16f
 unfoldable pub constraintEnds : Model → ℕ → ℕ → ℕ → Bool
@@ -27,7 +18,7 @@ constraintEnds m p d r = not (m .navigation p) || m .collection p || otherShape 
 
 -- 16b to 16d, of the n codes of a path.
 unfoldable pub constraintCodes : Model → List ℕ → ℕ → Bool
-constraintCodes m codes n = anyFrom (λ k. castCode (getD codes k 0)) 0 n || stepOrEnd m NoConstraintStep Navigates codes n
+constraintCodes m codes n = anyFrom (λ k. castCode (getD codes k 0)) 0 n || stepOrEnd m NoConstraintStep Navigates codes n || castCode (lastCode codes n)
 
 -- The same of a path, by the codes of all segments; its last property.
 unfoldable pub constraintFails : Model → List ℕ → Run → Bool

@@ -7,12 +7,11 @@ ghost use Rattle.csdl.specs.Search.{firstFrom};
 ghost use Rattle.csdl.specs.Tables.{constraintCount};
 ghost use Rattle.csdl.specs.Model.{modelOf};
 ghost use Rattle.csdl.specs.Properties as rules;
-ghost use Rattle.csdl.specs.Paths.{sameShape, bothComplex};
+ghost use Rattle.csdl.specs.Paths.{sameShape, bothComplex, otherNullable};
 ghost use Rattle.path_resolution.specs.Resolution.{lastCode, numberOf};
 ghost use Rattle.path_resolution.specs.Coded.{runOf};
-ghost use Rattle.rules_keys.specs.Constraints.{otherNullable, constraintEnds, constraintCodes, constraintCoded};
+ghost use Rattle.rules_keys.specs.Constraints.{constraintEnds, constraintCodes, constraintCoded};
 ghost use Rattle.model_image.specs.Limits.{FewConstraints, FewTypes};
-use lookup::kinds::of_kind;
 use model_image::constraints::constraint_count;
 use model_image::constraints::constraint_dependent;
 use model_image::constraints::constraint_principal;
@@ -27,6 +26,7 @@ use path_resolution::codes::run_of;
 use path_steps::StepTest;
 use path_steps::number_of;
 use path_steps::step_or_end;
+use type_hierarchy::kinds::of_kind;
 
 // b where a is true, the opposite where it is not.
 fn alike(a: bool, b: bool) -> bool
@@ -79,7 +79,7 @@ fn constraint_ends(types: &[u8], properties: &[u8], p: u16, d: u16, r: u16) -> b
         | other_nullable(properties, p, d, r)
 }
 
-// Whether a path has a cast, or a step that it may not have (16b to 16d).
+// Whether a path has a cast, a step that it may not have, or no last property (16b to 16d).
 fn constraint_codes(types: &[u8], properties: &[u8], codes: &[u32], n: u16) -> bool
     requires { ⌜ FewTypes (now types) × (length (now codes) ≡ 16) × (n < 16) ⌝ }
     ensures { λ x. ⌜ x ≡ constraintCodes (modelOf [] (now (types .entry)) (now (properties .entry)) [] [] [] [] [] []) (now (codes .entry)) n ⌝ }
@@ -93,9 +93,10 @@ fn constraint_codes(types: &[u8], properties: &[u8], codes: &[u32], n: u16) -> b
             codes,
             n,
         )
+        | (last_code(codes, n) >= 32768)
 }
 
-// A path of a constraint, by the codes of all segments: whether it has a cast or a step that it may not have, and its last property.
+// A path of a constraint, by the codes of all segments: whether 16b to 16d refuse it, and its last property.
 struct Walk {
     fails: bool,
     end: u16,

@@ -2,7 +2,9 @@
 ghost use mathlib.Core.Path.{_≡_};
 ghost use mathlib.Core.List.{[]};
 ghost use Prim.Native.Nat.{_+_, _≤_, _<_};
+ghost use Rattle.type_hierarchy.specs.AncestorSets.{ancestorsOf};
 ghost use Rattle.lookup.specs.Index.{Indexed};
+ghost use Rattle.type_hierarchy.specs.KeyOwners.{KeyOwners};
 ghost use Rattle.csdl.specs.Search.{firstFrom};
 ghost use Rattle.csdl.specs.Tables.{keyCount};
 ghost use Rattle.csdl.specs.Model.{modelOf};
@@ -10,9 +12,6 @@ ghost use Rattle.csdl.specs.Paths.{keyName, key15b, key15f, key15g, key15h};
 ghost use Rattle.rules_names.specs.Digests.{Fingerprinted};
 ghost use Rattle.rules_keys.specs.Keys.{againNamed, keyCodes, keyFingerprint, keyMisled, keyMisaliased, keyCoded};
 ghost use Rattle.model_image.specs.Limits.{FewKeys, FewProperties, FewTypes};
-use lookup::ancestors::ancestors_of;
-use lookup::key_owners::key_in;
-use lookup::kinds::of_kind;
 use lookup::names::find;
 use lookup::texts::key_alias_text;
 use lookup::texts::segment_text;
@@ -20,19 +19,25 @@ use model_image::keys::key_alias;
 use model_image::keys::key_count;
 use model_image::keys::key_owner;
 use model_image::keys::key_path;
+use model_image::segments::segment_cast;
 use packed::same_bytes;
 use path_resolution::codes::has_cast;
 use path_resolution::codes::run_of;
 use path_steps::StepTest;
 use path_steps::step_or_end;
 use rules_names::digests::fingerprint_of;
+use type_hierarchy::ancestors::all_ancestors;
+use type_hierarchy::ancestors::ancestors_at;
+use type_hierarchy::key_owners::key_owners;
+use type_hierarchy::kinds::of_kind;
+use type_hierarchy::type_sets::meet;
 
-// Whether an ancestor of the owner has keys (15b).
-fn key_above(types: &[u8], keys: &[u8], k: u16) -> bool
-    requires { ⌜ FewTypes (now types) × FewKeys (now keys) ⌝ }
+// Whether an ancestor of the owner has keys (15b). `ancestors` has those of all types, `owners` the owners of all keys.
+fn key_above(types: &[u8], keys: &[u8], ancestors: &[u64], owners: u64, k: u16) -> bool
+    requires { ⌜ FewTypes (now types) × (now ancestors ≡ ancestorsOf (now types)) × KeyOwners (now keys) owners ⌝ }
     ensures { λ r. ⌜ r ≡ key15b (modelOf [] (now (types .entry)) [] (now (keys .entry)) [] [] [] [] []) k ⌝ }
 {
-    key_in(keys, ancestors_of(types, key_owner(keys, k)))
+    meet(owners, ancestors_at(types, ancestors, key_owner(keys, k)))
 }
 
 // Whether the path has a cast, or a step that it may not have (15c to 15e), by the codes of all segments.
@@ -66,13 +71,16 @@ fn key_alias_form(keys: &[u8], k: u16) -> bool
     run.count <= 1
 }
 
-// The name of a key: its alias, else the name of its one segment.
+// The name of a key: its alias, else the name of its one segment; no bytes where that is a cast.
 fn key_name<'a>(keys: &[u8], segments: &[u8], names: &'a [u8], k: u16) -> &'a [u8]
     ensures { λ r. ⌜ now r ≡ keyName (modelOf [] [] [] (now (keys .entry)) [] [] [] (now (segments .entry)) (now (names .entry))) k ⌝ }
 {
     let alias = key_alias(keys, k);
     if alias.size == 0 {
         let run = key_path(keys, k);
+        if (run.count == 0) | segment_cast(segments, run.first) {
+            return &names[..0];
+        }
         return segment_text(segments, names, run.first);
     }
     key_alias_text(keys, names, k)
@@ -152,12 +160,20 @@ fn key_alias_found(
 }
 
 // Whether key k breaks rule 15 by its owner or its path (15a to 15e), by the codes of all segments.
-fn key_misled(types: &[u8], properties: &[u8], keys: &[u8], codes: &[u32], k: u16) -> bool
-    requires { ⌜ FewTypes (now types) × FewKeys (now keys) ⌝ }
+fn key_misled(
+    types: &[u8],
+    properties: &[u8],
+    keys: &[u8],
+    ancestors: &[u64],
+    owners: u64,
+    codes: &[u32],
+    k: u16,
+) -> bool
+    requires { ⌜ FewTypes (now types) × (now ancestors ≡ ancestorsOf (now types)) × KeyOwners (now keys) owners ⌝ }
     ensures { λ r. ⌜ r ≡ keyMisled (modelOf [] (now (types .entry)) (now (properties .entry)) (now (keys .entry)) [] [] [] [] []) (now (codes .entry)) k ⌝ }
 {
     !of_kind(types, 0, key_owner(keys, k))
-        | key_above(types, keys, k)
+        | key_above(types, keys, ancestors, owners, k)
         | key_walk(types, properties, keys, codes, k)
 }
 
@@ -190,11 +206,13 @@ pub fn first_15(
     ensures { λ r. ⌜ r ≡ firstFrom (λ k. keyCoded (modelOf [] (now (types .entry)) (now (properties .entry)) (now (keys .entry)) [] [] [] (now (segments .entry)) (now (names .entry))) (now (codes .entry)) k) 0 (keyCount (now (keys .entry))) ⌝ }
 {
     let n = key_count(keys);
+    let ancestors = all_ancestors(types);
+    let owners = key_owners(keys);
     let mut fingerprints = [1u64; 128];
     let mut k: u16 = 0;
     while k < n {
         fingerprints[k as usize] = key_fingerprint(keys, segments, names, k);
-        if key_misled(types, properties, keys, codes, k)
+        if key_misled(types, properties, keys, &ancestors, owners, codes, k)
             | key_named(keys, segments, names, &fingerprints, k)
             | key_misaliased(types, properties, keys, names, index, k)
         {

@@ -1,5 +1,5 @@
 -- Digests byte by byte, and what fingerprints that differ say. Assumes nothing.
-use Prim.Native.Nat.{ℕ, _+_, _*_, _%_, _≤_, _<_}
+use Prim.Native.Nat.{ℕ, _+_, _*_, _/_, _%_, _≤_, _<_}
 use mathlib.Core.Path.{_≡_, refl, sym, _∙_}
 use mathlib.Core.List.{List}
 use mathlib.Core.Bool.{Bool, true, false, _&&_, false≢true}
@@ -7,23 +7,21 @@ use borrow.Author.Tests.{eqb-true, eqb-false}
 use native.Mathlib.Numerals.{add-one}
 use native.Mathlib.Omega.{arith}
 use lib.Dec.{eqb}
-use lib.ListN.{length, getD, set, drop, length-set, drop-of-length-le}
-use lib.Seq.{drop-cons, getD-set-same, getD-set-other}
+use lib.ListN.{length, getD, set, length-set}
+use lib.Seq.{getD-set-same, getD-set-other}
+use Rattle.packed.specs.Field.{fieldOf}
 use Rattle.packed.specs.Bytes.{same}
 use Rattle.packed.proofs.Laws.{same-sound}
 use Rattle.csdl.specs.Model.{Model, typeText, childText}
 use Rattle.csdl.specs.Form.{sameType}
 use Rattle.rules_names.specs.Repeats.{sameChild}
-use Rattle.rules_names.specs.Digests.{digestFrom, fingerprintOf, typeFingerprint, childFingerprint, Fingerprinted}
+use Rattle.rules_names.specs.Digests.{digestTo, fingerprintOf, typeFingerprint, childFingerprint, Fingerprinted}
 
-module _ (s : List ℕ) (d i : ℕ) where
-  pub digest-next : i < length s → digestFrom d (drop i s) ≡ digestFrom ((1000003 * d + getD s i 0) % 4294967296) (drop (i + 1) s)
-  unfolding digestFrom
-  digest-next h = rw (add-one, drop-cons s i 0 h)
-
-  pub digest-end : length s ≤ i → digestFrom d (drop i s) ≡ d
-  unfolding digestFrom
-  digest-end h = rw (drop-of-length-le s {i = i} h)
+-- eight bytes more
+pub digest-next : (d : ℕ) (s : List ℕ) (i e w : ℕ) → e ≡ digestTo d s i → w ≡ fieldOf s (8 * (8 * i)) 64
+    → (1000003 * e + 65599 * (w / 4294967296) + w % 4294967296) % 4294967296 ≡ digestTo d s (i + 1)
+unfolding digestTo
+digest-next d s i e w p q = rw (add-one i, p, q)
 
 module _ (a b : ℕ) (s t : List ℕ) where
   -- names that are the same under the same number have one fingerprint

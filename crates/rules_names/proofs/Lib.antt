@@ -1,2 +1,3 @@
 pub mod Fingerprints
 pub mod Dots
+mod Identifiers

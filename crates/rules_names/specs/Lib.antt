@@ -1,3 +1,4 @@
 pub mod Digests
 pub mod Dots
+pub mod Identifiers
 pub mod Repeats

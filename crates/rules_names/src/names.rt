@@ -1,14 +1,16 @@
 // Rule 5: simple identifiers and namespaces.
 ghost use mathlib.Core.Path.{_≡_};
 ghost use mathlib.Core.List.{[]};
-ghost use Prim.Native.Nat.{_+_, _≤_};
-ghost use lib.ListN.{length, drop};
+ghost use mathlib.Core.Bool.{cond};
+ghost use Prim.Native.Nat.{ℕ, suc, min, _+_, _≤_, _<_};
+ghost use lib.ListN.{length, getD, drop, replicate};
 ghost use Rattle.csdl.specs.Search.{all};
 ghost use Rattle.csdl.specs.Model.{modelOf};
 ghost use Rattle.csdl.specs.Image.{modelIn};
-ghost use Rattle.model_image.specs.Laid.{Laid};
+ghost use Rattle.model_image.specs.Laid.{Laid, namesIn};
 ghost use Rattle.csdl.specs.Form as rules;
 ghost use Rattle.rules_names.specs.Dots.{untilDot};
+ghost use Rattle.rules_names.specs.Identifiers.{Limits, identifierLimit};
 use csdl::Record;
 use model_image::children::child_name;
 use model_image::fields::Name;
@@ -65,7 +67,7 @@ fn all_word_bytes(s: &[u8]) -> bool
 }
 
 // Whether the bytes are a simple identifier.
-pub fn is_simple(s: &[u8]) -> bool
+fn is_simple(s: &[u8]) -> bool
     ensures { λ r. ⌜ r ≡ rules.simple (now (s .entry)) ⌝ }
 {
     if s.len() < 1 {
@@ -90,7 +92,7 @@ fn part_end(s: &[u8], a: usize) -> usize
 }
 
 // Whether the bytes are simple identifiers joined by dots.
-pub fn is_dotted(s: &[u8]) -> bool
+fn is_dotted(s: &[u8]) -> bool
     ensures { λ r. ⌜ r ≡ all (λ p. rules.simple p) (rules.dotted (now (s .entry))) ⌝ }
 {
     let mut a: usize = 0;
@@ -105,58 +107,97 @@ pub fn is_dotted(s: &[u8]) -> bool
     is_simple(&s[a..])
 }
 
+// One more than the number of word bytes that bytes begin with, at most 129: of those from c on by that of those behind c.
+fn word_limit(c: u8, rest: u16) -> u16
+    requires { ⌜ rest ≤ 129 ⌝ }
+    ensures { λ r. ⌜ (r ≡ cond (rules.isWordByte c) (min 129 (suc rest)) 1) × (r ≤ 129) ⌝ }
+{
+    if !is_word_byte(c) {
+        return 1;
+    }
+    if rest < 129 { rest + 1 } else { 129 }
+}
+
+// The limit of bytes that begin with c, by that of their word bytes.
+fn identifier_limit(c: u8, words: u16) -> u16
+    ensures { λ r. ⌜ r ≡ cond (rules.isDigit c) 1 words ⌝ }
+{
+    if is_digit(c) { 1 } else { words }
+}
+
+// For each name byte the least size that is too long for a simple identifier from there on: one pass over the name bytes, from the end.
+pub fn identifier_limits(names: &[u8], limits: &mut [u16; 4096])
+    requires { ⌜ now limits ≡ replicate 4096 1 ⌝ }
+    ensures { λ r. ⌜ (length (now (limits .exit)) ≡ 4096) × ((i : ℕ) → i < 4096 → getD (now (limits .exit)) i 0 ≡ identifierLimit (drop i (now (names .entry)))) ⌝ }
+{
+    let mut words: u16 = 1;
+    let mut i = names.len();
+    while i > 0 {
+        let c = names[i - 1];
+        words = word_limit(c, words);
+        limits[(i - 1) % 4096] = identifier_limit(c, words);
+        i -= 1;
+    }
+}
+
 // 5a: a name is no simple identifier.
-pub fn name_5(names: &[u8], n: Name) -> bool
+fn name_5(names: &[u8], limits: &[u16], n: Name) -> bool
+    requires { ⌜ (n .start < 4096) × Limits (now names) (now limits) ⌝ }
     ensures { λ r. ⌜ r ≡ rules.name5a (modelOf [] [] [] [] [] [] [] [] (now (names .entry))) (record { start = n .start; size = n .size }) ⌝ }
 {
-    !is_simple(text_of(names, n))
+    let start = n.start;
+    let size = text_of(names, n).len();
+    let limit = limits[start as usize];
+    !((1 <= size) & (size < limit as usize))
 }
 
 // 5a of an alias that may be absent.
-pub fn alias_5(names: &[u8], n: Name) -> bool
+fn alias_5(names: &[u8], limits: &[u16], n: Name) -> bool
+    requires { ⌜ (n .start < 4096) × Limits (now names) (now limits) ⌝ }
     ensures { λ r. ⌜ r ≡ rules.alias5a (modelOf [] [] [] [] [] [] [] [] (now (names .entry))) (record { start = n .start; size = n .size }) ⌝ }
 {
     let size = n.size;
-    (size != 0) & name_5(names, n)
+    (size != 0) & name_5(names, limits, n)
 }
 
 // 5b: a namespace is not 1 to 255 bytes of simple identifiers joined by dots.
-pub fn namespace_5(names: &[u8], n: Name) -> bool
+fn namespace_5(names: &[u8], n: Name) -> bool
     ensures { λ r. ⌜ r ≡ rules.namespace5b (modelOf [] [] [] [] [] [] [] [] (now (names .entry))) (record { start = n .start; size = n .size }) ⌝ }
 {
     let s = text_of(names, n);
     !((1 <= s.len()) & (s.len() <= 255) & is_dotted(s))
 }
 
-fn schema_5(schemas: &[u8], names: &[u8], s: u16) -> bool
+fn schema_5(schemas: &[u8], names: &[u8], limits: &[u16], s: u16) -> bool
+    requires { ⌜ Limits (now names) (now limits) ⌝ }
     ensures { λ r. ⌜ r ≡ rules.rule5 (modelOf (now (schemas .entry)) [] [] [] [] [] [] [] (now (names .entry))) (Record.OfSchema s) ⌝ }
 {
-    namespace_5(names, schema_namespace(schemas, s)) | alias_5(names, schema_alias(schemas, s))
+    namespace_5(names, schema_namespace(schemas, s))
+        | alias_5(names, limits, schema_alias(schemas, s))
 }
 
-fn segment_5(segments: &[u8], names: &[u8], g: u16) -> bool
+fn segment_5(segments: &[u8], names: &[u8], limits: &[u16], g: u16) -> bool
+    requires { ⌜ Limits (now names) (now limits) ⌝ }
     ensures { λ r. ⌜ r ≡ rules.rule5 (modelOf [] [] [] [] [] [] [] (now (segments .entry)) (now (names .entry))) (Record.OfSegment g) ⌝ }
 {
-    !segment_cast(segments, g) & name_5(names, segment_name(segments, g))
+    !segment_cast(segments, g) & name_5(names, limits, segment_name(segments, g))
 }
 
-// Rule 5 of a record.
-pub fn rule_5(image: &[u8], at: Layout, rec: Record) -> bool
-    requires { ⌜ Laid (now image) at ⌝ }
+// Rule 5 of a record, by the limits of the image's name bytes.
+pub fn rule_5(image: &[u8], at: Layout, limits: &[u16], rec: Record) -> bool
+    requires { ⌜ Laid (now image) at × Limits (namesIn (now image)) (now limits) ⌝ }
     ensures { λ r. ⌜ r ≡ rules.rule5 (modelIn (now (image .entry))) rec ⌝ }
 {
+    let names = names_of(image, at);
     match rec {
-        Record::OfSchema(s) => schema_5(schemas_of(image, at), names_of(image, at), s),
-        Record::OfType(t) => name_5(names_of(image, at), type_name(types_of(image, at), t)),
-        Record::OfProperty(p) => name_5(
-            names_of(image, at),
-            property_name(properties_of(image, at), p),
-        ),
-        Record::OfKey(k) => alias_5(names_of(image, at), key_alias(keys_of(image, at), k)),
+        Record::OfSchema(s) => schema_5(schemas_of(image, at), names, limits, s),
+        Record::OfType(t) => name_5(names, limits, type_name(types_of(image, at), t)),
+        Record::OfProperty(p) => name_5(names, limits, property_name(properties_of(image, at), p)),
+        Record::OfKey(k) => alias_5(names, limits, key_alias(keys_of(image, at), k)),
         Record::OfConstraint(_) => false,
-        Record::OfChild(h) => name_5(names_of(image, at), child_name(children_of(image, at), h)),
+        Record::OfChild(h) => name_5(names, limits, child_name(children_of(image, at), h)),
         Record::OfBinding(_) => false,
-        Record::OfSegment(g) => segment_5(segments_of(image, at), names_of(image, at), g),
+        Record::OfSegment(g) => segment_5(segments_of(image, at), names, limits, g),
         Record::Nowhere => false,
     }
 }

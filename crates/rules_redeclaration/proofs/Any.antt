@@ -6,10 +6,10 @@ use Rattle.csdl.specs.Search.{anyFrom}
 use Rattle.csdl.specs.Model.{Model}
 use Rattle.csdl.specs.Find.{ancestor}
 use Rattle.csdl.specs.Properties.{property11b}
-use Rattle.lookup.specs.Sets.{member}
+use Rattle.type_hierarchy.specs.Sets.{member}
 use Rattle.rules_redeclaration.specs.Clashes.{clash}
 use Rattle.csdl.proofs.Logic.{any-same, none-any}
-use Rattle.lookup.proofs.SetLaws.{member-none}
+use Rattle.type_hierarchy.proofs.SetLaws.{member-none}
 
 -- The set has the ancestors of p's owner.
 pub clash-any : (m : Model) (above p : ℕ) → ((q : ℕ) → member above (m .owner q) ≡ ancestor m (m .owner q) (m .owner p))

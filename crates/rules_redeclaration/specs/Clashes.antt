@@ -4,7 +4,7 @@ use mathlib.Core.Bool.{Bool, not, _&&_}
 use lib.Dec.{eqb}
 use Rattle.csdl.specs.Model.{Model}
 use Rattle.csdl.specs.Properties.{sameName, redeclares}
-use Rattle.lookup.specs.Sets.{member}
+use Rattle.type_hierarchy.specs.Sets.{member}
 
 -- q is of p's owner and has p's name.
 unfoldable pub repeated : Model → ℕ → ℕ → Bool

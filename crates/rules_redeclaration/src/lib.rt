@@ -3,26 +3,27 @@ ghost use mathlib.Core.Path.{_≡_};
 ghost use mathlib.Core.List.{[]};
 ghost use Prim.Native.Nat.{_<_};
 ghost use lib.Dec.{eqb};
+ghost use Rattle.type_hierarchy.specs.AncestorSets.{ancestorsOf};
 ghost use Rattle.lookup.specs.Index.{Indexed};
 ghost use Rattle.csdl.specs.Tables.{propertyCount, propertyOwner, propertyTypeRef};
 ghost use Rattle.csdl.specs.Search.{anyFrom};
 ghost use Rattle.csdl.specs.Model.{modelOf};
 ghost use Rattle.csdl.specs.Find as find;
 ghost use Rattle.csdl.specs.Properties as rules;
-ghost use Rattle.lookup.specs.Sets.{Holds};
+ghost use Rattle.type_hierarchy.specs.Sets.{Members};
 ghost use Rattle.rules_redeclaration.specs.Clashes.{clash, clashing};
 ghost use Rattle.model_image.specs.Limits.{FewProperties, FewTypes};
-use lookup::ancestors::ancestors_of;
-use lookup::bases::ancestor;
 use lookup::index::first_alike;
 use lookup::index::next_alike;
-use lookup::type_sets::in_set;
 use model_image::properties::property_collection;
 use model_image::properties::property_contains;
 use model_image::properties::property_navigation;
 use model_image::properties::property_nullable;
 use model_image::properties::property_owner;
 use model_image::properties::property_type_ref;
+use type_hierarchy::ancestors::ancestors_at;
+use type_hierarchy::bases::ancestor;
+use type_hierarchy::type_sets::in_set;
 
 fn alike(a: bool, b: bool) -> bool
     ensures { λ r. ⌜ r ≡ rules.alike a b ⌝ }
@@ -58,7 +59,7 @@ fn declared_before(properties: &[u8], names: &[u8], index: &[u16], p: u16) -> bo
 
 // Whether a is an ancestor of t, of which the set has those below 64.
 fn is_above(types: &[u8], ancestors: u64, a: u16, t: u16) -> bool
-    requires { ⌜ FewTypes (now types) × Holds 64 ancestors (λ u. find.ancestor (modelOf [] (now types) [] [] [] [] [] [] []) u t) ⌝ }
+    requires { ⌜ FewTypes (now types) × Members 64 ancestors (λ u. find.ancestor (modelOf [] (now types) [] [] [] [] [] [] []) u t) ⌝ }
     ensures { λ r. ⌜ r ≡ find.ancestor (modelOf [] (now (types .entry)) [] [] [] [] [] [] []) a t ⌝ }
 {
     if a < 64 {
@@ -69,7 +70,7 @@ fn is_above(types: &[u8], ancestors: u64, a: u16, t: u16) -> bool
 
 // Whether p may redeclare q; `ancestors` has the ancestors of p's type.
 fn redeclares(types: &[u8], properties: &[u8], ancestors: u64, p: u16, q: u16) -> bool
-    requires { ⌜ FewTypes (now types) × Holds 64 ancestors (λ u. find.ancestor (modelOf [] (now types) [] [] [] [] [] [] []) u (propertyTypeRef (now properties) p)) ⌝ }
+    requires { ⌜ FewTypes (now types) × Members 64 ancestors (λ u. find.ancestor (modelOf [] (now types) [] [] [] [] [] [] []) u (propertyTypeRef (now properties) p)) ⌝ }
     ensures { λ r. ⌜ r ≡ rules.redeclares (modelOf [] (now (types .entry)) (now (properties .entry)) [] [] [] [] [] []) p q ⌝ }
 {
     let kind = alike(
@@ -99,7 +100,7 @@ fn redeclares(types: &[u8], properties: &[u8], ancestors: u64, p: u16, q: u16) -
 
 // Whether q, which has p's name, is of a type of the set, and p may not redeclare it.
 fn clashes(types: &[u8], properties: &[u8], above: u64, ancestors: u64, p: u16, q: u16) -> bool
-    requires { ⌜ FewTypes (now types) × Holds 64 ancestors (λ u. find.ancestor (modelOf [] (now types) [] [] [] [] [] [] []) u (propertyTypeRef (now properties) p)) ⌝ }
+    requires { ⌜ FewTypes (now types) × Members 64 ancestors (λ u. find.ancestor (modelOf [] (now types) [] [] [] [] [] [] []) u (propertyTypeRef (now properties) p)) ⌝ }
     ensures { λ r. ⌜ r ≡ clashing (modelOf [] (now (types .entry)) (now (properties .entry)) [] [] [] [] [] []) above p q ⌝ }
 {
     if !in_set(above, property_owner(properties, q)) {
@@ -118,7 +119,7 @@ fn any_clash(
     ancestors: u64,
     p: u16,
 ) -> bool
-    requires { ⌜ FewTypes (now types) × FewProperties (now properties) × (p < propertyCount (now properties)) × Holds 64 ancestors (λ u. find.ancestor (modelOf [] (now types) [] [] [] [] [] [] []) u (propertyTypeRef (now properties) p)) × Indexed (now properties) (now names) (now index) ⌝ }
+    requires { ⌜ FewTypes (now types) × FewProperties (now properties) × (p < propertyCount (now properties)) × Members 64 ancestors (λ u. find.ancestor (modelOf [] (now types) [] [] [] [] [] [] []) u (propertyTypeRef (now properties) p)) × Indexed (now properties) (now names) (now index) ⌝ }
     ensures { λ r. ⌜ r ≡ anyFrom (λ q. clash (modelOf [] (now (types .entry)) (now (properties .entry)) [] [] [] [] [] (now (names .entry))) above p q) 0 (propertyCount (now (properties .entry))) ⌝ }
 {
     let mut at = first_alike(index, p);
@@ -133,25 +134,39 @@ fn any_clash(
 }
 
 // 11b: whether a property of an ancestor has the name, and this one may not redeclare it.
-fn wrongly_redeclared(types: &[u8], properties: &[u8], names: &[u8], index: &[u16], p: u16) -> bool
-    requires { ⌜ FewTypes (now types) × FewProperties (now properties) × (p < propertyCount (now properties)) × Indexed (now properties) (now names) (now index) ⌝ }
+fn wrongly_redeclared(
+    types: &[u8],
+    properties: &[u8],
+    names: &[u8],
+    index: &[u16],
+    ancestors: &[u64],
+    p: u16,
+) -> bool
+    requires { ⌜ FewTypes (now types) × FewProperties (now properties) × (p < propertyCount (now properties)) × Indexed (now properties) (now names) (now index) × (now ancestors ≡ ancestorsOf (now types)) ⌝ }
     ensures { λ r. ⌜ r ≡ rules.property11b (modelOf [] (now (types .entry)) (now (properties .entry)) [] [] [] [] [] (now (names .entry))) p ⌝ }
 {
-    let above = ancestors_of(types, property_owner(properties, p));
+    let above = ancestors_at(types, ancestors, property_owner(properties, p));
     if above == 0 {
         return false;
     }
-    let ancestors = ancestors_of(types, property_type_ref(properties, p));
-    any_clash(types, properties, names, index, above, ancestors, p)
+    let wider = ancestors_at(types, ancestors, property_type_ref(properties, p));
+    any_clash(types, properties, names, index, above, wider, p)
 }
 
-// Whether the property breaks rule 11.
-pub fn property_11(types: &[u8], properties: &[u8], names: &[u8], index: &[u16], p: u16) -> bool
-    requires { ⌜ FewTypes (now types) × FewProperties (now properties) × (p < propertyCount (now properties)) × Indexed (now properties) (now names) (now index) ⌝ }
+// Whether the property breaks rule 11; `ancestors` has those of all types.
+pub fn property_11(
+    types: &[u8],
+    properties: &[u8],
+    names: &[u8],
+    index: &[u16],
+    ancestors: &[u64],
+    p: u16,
+) -> bool
+    requires { ⌜ FewTypes (now types) × FewProperties (now properties) × (p < propertyCount (now properties)) × Indexed (now properties) (now names) (now index) × (now ancestors ≡ ancestorsOf (now types)) ⌝ }
     ensures { λ r. ⌜ r ≡ rules.property11 (modelOf [] (now (types .entry)) (now (properties .entry)) [] [] [] [] [] (now (names .entry))) p ⌝ }
 {
     if declared_before(properties, names, index, p) {
         return true;
     }
-    wrongly_redeclared(types, properties, names, index, p)
+    wrongly_redeclared(types, properties, names, index, ancestors, p)
 }

@@ -1,23 +1,12 @@
 -- Reaching by rounds, number by number.
-use Prim.Native.Nat.{ℕ, zero, suc, _+_, _-_, _≤_, _<_}
-use mathlib.Core.Path.{_≡_, refl, sym, _∙_, ap, ap₂}
+use Prim.Native.Nat.{ℕ, zero, suc, _-_, _<_}
+use mathlib.Core.Path.{_≡_, sym, _∙_, ap₂}
 use mathlib.Core.Bool.{Bool, false, _&&_, _||_}
-use native.Mathlib.Nat.{le-of-suc-le-suc, not-suc-le-zero, add-zero}
-use native.Mathlib.Numerals.{add-one}
 use native.Mathlib.Omega.{arith}
 use lib.ListN.{getD}
-use Rattle.csdl.specs.Search.{anyFrom, tab}
-use Rattle.csdl.specs.Climb.{rounds, reaches}
-use Rattle.csdl.proofs.Logic.{any-same}
-
-tab-from : (f : ℕ → Bool) (n i k : ℕ) → k < n → getD (tab f i n) k false ≡ f (i + k)
-unfolding tab
-tab-from f zero i k h = absurd (not-suc-le-zero h)
-tab-from f (suc n) i zero h = rw add-zero
-tab-from f (suc n) i (suc k) h = let e : i + 1 + k ≡ i + suc k = omega arith in rw (← e) (tab-from f n (i + 1) k (le-of-suc-le-suc h))
-
-tab-at : (f : ℕ → Bool) (n k : ℕ) → k < n → getD (tab f 0 n) k false ≡ f k
-tab-at f n k h = let e : 0 + k ≡ k = omega arith in rw e at (tab-from f n 0 k h)
+use Rattle.csdl.specs.Search.{anyFrom}
+use Rattle.csdl.specs.Climb.{rounds}
+use Rattle.csdl.proofs.Logic.{any-same, tab-at}
 
 module _ (step : ℕ → ℕ → Bool) (n a : ℕ) where
   -- Whether b is reached after k further rounds.
@@ -26,11 +15,11 @@ module _ (step : ℕ → ℕ → Bool) (n a : ℕ) where
 
   round-none : (b : ℕ) → b < n → reached 0 b ≡ step a b
   unfolding rounds
-  round-none b h = tab-at (step a) n b h
+  round-none b h = tab-at (step a) false n b h
 
   round-more : (k b : ℕ) → b < n → reached (suc k) b ≡ reached k b || anyFrom (λ c. reached k c && step c b) 0 n
   unfolding rounds
-  round-more k b h = tab-at (λ b. reached k b || anyFrom (λ c. reached k c && step c b) 0 n) n b h
+  round-more k b h = tab-at (λ b. reached k b || anyFrom (λ c. reached k c && step c b) 0 n) false n b h
 
 -- Steps that agree below n.
 pub rounds-same : (f g : ℕ → ℕ → Bool) (n a : ℕ) → a < n → ((x y : ℕ) → x < n → y < n → f x y ≡ g x y)

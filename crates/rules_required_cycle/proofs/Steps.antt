@@ -11,11 +11,11 @@ use Rattle.csdl.specs.Tables.{typeCount}
 use Rattle.csdl.specs.Model.{Model, modelOf}
 use Rattle.csdl.specs.Find.{ancestorOrSelf}
 use Rattle.csdl.specs.Properties.{requiredStep, type12}
-use Rattle.lookup.specs.Sets.{member, Holds, setOf, stepOf}
+use Rattle.type_hierarchy.specs.Sets.{member, Members, setOf, stepOf}
 use Rattle.rules_required_cycle.specs.Cycles.{cyclic}
 use Rattle.rules_required_cycle.specs.Steps.{leads}
 use Rattle.csdl.proofs.Logic.{any-same}
-use Rattle.lookup.proofs.SetLaws.{member-set, set-same}
+use Rattle.type_hierarchy.proofs.SetLaws.{member-set, set-same}
 use Rattle.rules_required_cycle.proofs.Rounds.{rounds-same}
 
 -- The line has t and its ancestors.
@@ -25,7 +25,7 @@ unfolding leads requiredStep
 steps-lead m line t u all = any-same _ _ 0 (m .properties) (λ p a h. rw (all p))
 
 -- Row t has the steps of t.
-pub cyclic-rows : (m : Model) (rows : List ℕ) → m .types ≤ 64 → ((t : ℕ) → t < m .types → Holds 64 (getD rows t 0) (λ u. requiredStep m t u))
+pub cyclic-rows : (m : Model) (rows : List ℕ) → m .types ≤ 64 → ((t : ℕ) → t < m .types → Members 64 (getD rows t 0) (λ u. requiredStep m t u))
     → setOf (λ a. reaches (stepOf rows) (m .types) a a) (m .types) ≡ cyclic m
 unfolding cyclic type12 reaches
 cyclic-rows m rows h all =

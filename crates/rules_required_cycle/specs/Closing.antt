@@ -5,7 +5,7 @@ use mathlib.Core.List.{List}
 use mathlib.Core.Bool.{_&&_, _||_}
 use lib.ListN.{length}
 use Rattle.csdl.specs.Climb.{reaches}
-use Rattle.lookup.specs.Sets.{stepOf}
+use Rattle.type_hierarchy.specs.Sets.{stepOf}
 
 -- The rows below n went through c: each that had c has got what row c had.
 pub record Through (n c : ℕ) (before after : List ℕ) : Type 0 where

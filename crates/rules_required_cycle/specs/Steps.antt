@@ -7,7 +7,7 @@ use lib.Dec.{eqb}
 use lib.ListN.{length, getD}
 use Rattle.csdl.specs.Model.{Model}
 use Rattle.csdl.specs.Properties.{required}
-use Rattle.lookup.specs.Sets.{member, Holds}
+use Rattle.type_hierarchy.specs.Sets.{member, Members}
 
 -- p is required, leads to u, and is of a type of the set.
 unfoldable pub leads : Model → ℕ → ℕ → ℕ → Bool
@@ -16,4 +16,4 @@ leads m line u p = required m p && eqb (m .typeRef p) u && member line (m .owner
 -- The rows below n got the numbers that pass the test of their row.
 pub record Stepped (n : ℕ) (test : ℕ → ℕ → Bool) (before after : List ℕ) : Type 0 where
   pub same-length : length after ≡ length before
-  pub row : (t : ℕ) → t < n → Holds 64 (getD after t 0) (λ v. member (getD before t 0) v || test t v)
+  pub row : (t : ℕ) → t < n → Members 64 (getD after t 0) (λ v. member (getD before t 0) v || test t v)

@@ -5,15 +5,15 @@ ghost use mathlib.Core.Bool.{_||_, _&&_};
 ghost use Prim.Native.Nat.{_≤_, _<_};
 ghost use lib.ListN.{length};
 ghost use Rattle.csdl.specs.Climb.{reaches};
-ghost use Rattle.lookup.specs.Sets.{member, Holds, setOf, stepOf};
+ghost use Rattle.type_hierarchy.specs.Sets.{member, Members, setOf, stepOf};
 ghost use Rattle.rules_required_cycle.specs.Closing.{Through, Closed};
-use lookup::type_sets::in_set;
-use lookup::type_sets::mark_of;
+use model_image::fields::one_if;
+use type_hierarchy::type_sets::in_set;
 
 // The row, and row c where c is in it.
 fn with_row(rows: &[u64], row: u64, c: u16) -> u64
     requires { ⌜ (length (now rows) ≡ 64) × (c < 64) ⌝ }
-    ensures { λ r. ⌜ Holds 64 r (λ b. member row b || (member row c && stepOf (now (rows .entry)) c b)) ⌝ }
+    ensures { λ r. ⌜ Members 64 r (λ b. member row b || (member row c && stepOf (now (rows .entry)) c b)) ⌝ }
 {
     if in_set(row, c) {
         return row | rows[c as usize];
@@ -50,7 +50,7 @@ fn in_own_row(rows: &[u64], n: u16) -> u64
     let mut set: u64 = 0;
     for a in 0..n {
         let found = in_set(rows[a as usize], a);
-        set = set | (mark_of(found) << a);
+        set = set | ((one_if(found) as u64) << a);
     }
     set
 }

@@ -11,21 +11,22 @@ ghost use Rattle.csdl.specs.Tables.{typeCount};
 ghost use Rattle.csdl.specs.Model.{modelOf};
 ghost use Rattle.csdl.specs.Find.{ancestorOrSelf};
 ghost use Rattle.csdl.specs.Properties as rules;
-ghost use Rattle.lookup.specs.Sets.{member, Holds};
+ghost use Rattle.type_hierarchy.specs.Sets.{member, Members};
 ghost use Rattle.rules_required_cycle.specs.Cycles.{cyclic};
 ghost use Rattle.rules_required_cycle.specs.Steps.{leads, Stepped};
 ghost use Rattle.model_image.specs.Limits.{FewProperties, FewTypes};
 use crate::cycles::on_cycles;
-use lookup::ancestors::with_ancestors;
-use lookup::steps::integral;
-use lookup::type_sets::in_set;
-use lookup::type_sets::with_one;
 use model_image::properties::property_collection;
 use model_image::properties::property_count;
 use model_image::properties::property_nullable;
 use model_image::properties::property_owner;
 use model_image::properties::property_type_ref;
 use model_image::types::type_count;
+use type_hierarchy::ancestors::all_ancestors;
+use type_hierarchy::ancestors::ancestors_at;
+use type_hierarchy::steps::integral;
+use type_hierarchy::type_sets::in_set;
+use type_hierarchy::type_sets::with_one;
 
 // Whether the property gives steps.
 fn required(types: &[u8], properties: &[u8], p: u16) -> bool
@@ -40,12 +41,13 @@ fn required(types: &[u8], properties: &[u8], p: u16) -> bool
 // The lines of all types: row t has t and its ancestors.
 fn line_rows(types: &[u8]) -> [u64; 64]
     requires { ⌜ FewTypes (now types) ⌝ }
-    ensures { λ r. ⌜ (length r ≡ 64) × ((t : ℕ) → t < typeCount (now (types .entry)) → Holds 64 (getD r t 0) (λ a. ancestorOrSelf (modelOf [] (now (types .entry)) [] [] [] [] [] [] []) a t)) ⌝ }
+    ensures { λ r. ⌜ (length r ≡ 64) × ((t : ℕ) → t < typeCount (now (types .entry)) → Members 64 (getD r t 0) (λ a. ancestorOrSelf (modelOf [] (now (types .entry)) [] [] [] [] [] [] []) a t)) ⌝ }
 {
     let n = type_count(types);
+    let ancestors = all_ancestors(types);
     let mut rows = [0u64; 64];
     for t in 0..n {
-        rows[t as usize] = with_ancestors(types, t);
+        rows[t as usize] = with_one(ancestors_at(types, &ancestors, t), t);
     }
     rows
 }
@@ -53,7 +55,7 @@ fn line_rows(types: &[u8]) -> [u64; 64]
 // The row of a type, and u in it where the owner is of the type's line.
 fn with_step(line: u64, row: u64, owner: u16, u: u16) -> u64
     requires { ⌜ owner < 64 ⌝ }
-    ensures { λ r. ⌜ Holds 64 r (λ v. member row v || (eqb u v && member line owner)) ⌝ }
+    ensures { λ r. ⌜ Members 64 r (λ v. member row v || (eqb u v && member line owner)) ⌝ }
 {
     if in_set(line, owner) {
         return with_one(row, u);
@@ -91,7 +93,7 @@ fn add_property(types: &[u8], properties: &[u8], lines: &[u64], rows: &mut [u64]
 // The steps of all types, row by row.
 fn step_rows(types: &[u8], properties: &[u8]) -> [u64; 64]
     requires { ⌜ FewTypes (now types) × FewProperties (now properties) ⌝ }
-    ensures { λ r. ⌜ (length r ≡ 64) × ((t : ℕ) → t < typeCount (now (types .entry)) → Holds 64 (getD r t 0) (λ u. rules.requiredStep (modelOf [] (now (types .entry)) (now (properties .entry)) [] [] [] [] [] []) t u)) ⌝ }
+    ensures { λ r. ⌜ (length r ≡ 64) × ((t : ℕ) → t < typeCount (now (types .entry)) → Members 64 (getD r t 0) (λ u. rules.requiredStep (modelOf [] (now (types .entry)) (now (properties .entry)) [] [] [] [] [] []) t u)) ⌝ }
 {
     let lines = line_rows(types);
     let all = type_count(types);

@@ -9,12 +9,13 @@ use lib.ListN.{length, getD, set, replicate, getD-replicate}
 use lib.Seq.{getD-set-same, getD-set-other}
 use lib.Dec.{eqb, ltb, leb}
 use borrow.Author.Tests.{ne-eqb, leb-true, ltb-true, ltb-false, eqb-true, eqb-false, lt-ltb, le-ltb, le-leb, lt-leb}
-use Rattle.csdl.specs.Tables.{Run}
+use Rattle.csdl.specs.declared.Run.{Run}
+use Rattle.csdl.proofs.Settle.{one-if-le, count-le}
 use Rattle.csdl.specs.Model.{Model, modelOf, inRun}
-use Rattle.csdl.specs.Path.{holding, pathsHolding, holders, pathOf}
+use Rattle.csdl.specs.Path.{kindPathsWith, pathsWith, holders, pathOf}
 use Rattle.csdl.specs.Paths.{segment13}
-use Rattle.path_kinds.specs.Kinds.{kindOf}
-use Rattle.csdl.specs.Search.{mark, sumFrom, countFrom, sumOf}
+use Rattle.path_kinds.specs.Kinds.{kindAt}
+use Rattle.csdl.specs.Search.{oneIf, sumFrom, countFrom, sumOf}
 use Rattle.rules_segments.specs.Cover.{inside, coverOf}
 
 -- g itself is passed at g + 1, and no other number is.
@@ -33,19 +34,19 @@ ltb-other k g ne = go (ltb k g) refl
 
 -- The array counts, for each number, whether it lies from `from` on and before g.
 abbrev pub Counted : List ℕ → List ℕ → ℕ → ℕ → Type 0
-Counted out₀ out from g = (k : ℕ) → getD out k 0 ≡ getD out₀ k 0 + mark (leb from k && ltb k g)
+Counted out₀ out from g = (k : ℕ) → getD out k 0 ≡ getD out₀ k 0 + oneIf (leb from k && ltb k g)
 
 pub counted-start : (out : List ℕ) (from : ℕ) → Counted out out from from
 counted-start out from k = go (leb from k) refl
   where
-    go : (b : Bool) → leb from k ≡ b → getD out k 0 ≡ getD out k 0 + mark (leb from k && ltb k from)
+    go : (b : Bool) → leb from k ≡ b → getD out k 0 ≡ getD out k 0 + oneIf (leb from k && ltb k from)
     go true e = rw (e, le-ltb k from (omega (arith, leb-true from k e))) (omega arith)
     go false e = rw e (omega arith)
 
 pub counted-more : (out₀ out : List ℕ) (from g : ℕ) → from ≤ g → g < length out → Counted out₀ out from g → Counted out₀ (set out g (getD out g 0 + 1)) from (g + 1)
 counted-more out₀ out from g low high c k = go (eqb k g) refl
   where
-    go : (b : Bool) → eqb k g ≡ b → getD (set out g (getD out g 0 + 1)) k 0 ≡ getD out₀ k 0 + mark (leb from k && ltb k (g + 1))
+    go : (b : Bool) → eqb k g ≡ b → getD (set out g (getD out g 0 + 1)) k 0 ≡ getD out₀ k 0 + oneIf (leb from k && ltb k (g + 1))
     go true e =
         let q : k ≡ g = eqb-true k g e in
         let z : getD out g 0 ≡ getD out₀ g 0 + 0 = c g ∙ rw (le-leb from g low, ltb-not-yet g) in
@@ -56,21 +57,17 @@ counted-more out₀ out from g low high c k = go (eqb k g) refl
 
 -- At the end of the run, or of the array.
 pub counted-end : (out₀ out : List ℕ) (first count g size : ℕ) → min (first + count) size ≤ g → g ≤ first + count → first ≤ g → Counted out₀ out first g →
-    (k : ℕ) → k < size → getD out k 0 ≡ getD out₀ k 0 + mark (inside first count k)
+    (k : ℕ) → k < size → getD out k 0 ≡ getD out₀ k 0 + oneIf (inside first count k)
 unfolding inside
 counted-end out₀ out first count g size low high from c k h = c k ∙ go (ltb k g) refl
   where
-    go : (b : Bool) → ltb k g ≡ b → getD out₀ k 0 + mark (leb first k && ltb k g) ≡ getD out₀ k 0 + mark (leb first k && ltb k (first + count))
+    go : (b : Bool) → ltb k g ≡ b → getD out₀ k 0 + oneIf (leb first k && ltb k g) ≡ getD out₀ k 0 + oneIf (leb first k && ltb k (first + count))
     go true e = rw (e, lt-ltb k (first + count) (omega (arith, ltb-true k g e)))
     go false e = rw (e, le-ltb k (first + count) (omega (arith, ltb-false k g e)))
 
-pub mark-le : (b : Bool) → mark b ≤ 1
-mark-le true = omega arith
-mark-le false = omega arith
-
 -- An entry stays small.
 pub counted-small : (out₀ out : List ℕ) (from g k n : ℕ) → Counted out₀ out from g → getD out₀ k 0 ≤ n → getD out k 0 ≤ n + 1
-counted-small out₀ out from g k n c h = omega (arith, c k, mark-le (leb from k && ltb k g))
+counted-small out₀ out from g k n c h = omega (arith, c k, one-if-le (leb from k && ltb k g))
 
 -- One more term at the end.
 sum-suc : (f : ℕ → ℕ) (i n : ℕ) → sumFrom f i (suc n) ≡ sumFrom f i n + f (i + n)
@@ -84,13 +81,8 @@ sum-suc f i (suc n) =
 pub sum-next : (f : ℕ → ℕ) (i n : ℕ) → sumFrom f i (n + 1) ≡ sumFrom f i n + f (i + n)
 sum-next f i n = rw (add-one n) (sum-suc f i n)
 
-count-next : (test : ℕ → Bool) (r : ℕ) → countFrom test 0 (r + 1) ≡ countFrom test 0 r + mark (test r)
-count-next test r = let e : 0 + r ≡ r = omega arith in sum-next (λ k. mark (test k)) 0 r ∙ ap (λ (x : ℕ). countFrom test 0 r + mark (test x)) e
-
-pub count-le : (test : ℕ → Bool) (i n : ℕ) → countFrom test i n ≤ n
-unfolding sumFrom
-count-le test i zero = omega arith
-count-le test i (suc n) = omega (arith, mark-le (test i), count-le test (i + 1) n)
+count-next : (test : ℕ → Bool) (r : ℕ) → countFrom test 0 (r + 1) ≡ countFrom test 0 r + oneIf (test r)
+count-next test r = let e : 0 + r ≡ r = omega arith in sum-next (λ k. oneIf (test k)) 0 r ∙ ap (λ (x : ℕ). countFrom test 0 r + oneIf (test x)) e
 
 -- The array counts, for each number, how many of the first r runs it is in.
 abbrev pub Tallied : (ℕ → ℕ → Bool) → List ℕ → List ℕ → ℕ → Type 0
@@ -101,7 +93,7 @@ unfolding sumFrom
 tallied-start test out g h = omega arith
 
 pub tallied-more : (test : ℕ → ℕ → Bool) (out₀ out out′ : List ℕ) (r : ℕ) → length out ≡ length out₀ → Tallied test out₀ out r →
-    ((g : ℕ) → g < length out → getD out′ g 0 ≡ getD out g 0 + mark (test r g)) → Tallied test out₀ out′ (r + 1)
+    ((g : ℕ) → g < length out → getD out′ g 0 ≡ getD out g 0 + oneIf (test r g)) → Tallied test out₀ out′ (r + 1)
 tallied-more test out₀ out out′ r e t s g h = omega (arith, t g h, s g (omega arith), count-next (λ k. test k g) r)
 
 pub tallied-small : (test : ℕ → ℕ → Bool) (out₀ out : List ℕ) (r n m : ℕ) → length out ≡ length out₀ → Tallied test out₀ out r → r ≤ m →
@@ -113,7 +105,7 @@ pub inside-run : (r : Run) (first count g : ℕ) → first ≡ r .first → coun
 unfolding inside
 inside-run r first count g e f = rw (e, f)
 
-pub added : (r : Run) (first count g n m : ℕ) → first ≡ r .first → count ≡ r .count → n ≡ m + mark (inside first count g) → n ≡ m + mark (inRun r g)
+pub added : (r : Run) (first count g n m : ℕ) → first ≡ r .first → count ≡ r .count → n ≡ m + oneIf (inside first count g) → n ≡ m + oneIf (inRun r g)
 added r first count g n m e f h = rw (← inside-run r first count g e f) h
 
 -- The array sums, for each number, what each of the first kinds adds.
@@ -133,16 +125,16 @@ summed-more f out out′ kind s n g h =
     (omega (arith, s g h .0, n g h .0), omega (arith, s g h .1, n g h .0, n g h .1))
 
 -- All six kinds.
-pub all-kinds : (m : Model) (g : ℕ) → sumFrom (λ k. holding m (kindOf k) g) 0 6 ≡ coverOf m g
-unfolding sumFrom kindOf coverOf pathsHolding sumOf
+pub all-kinds : (m : Model) (g : ℕ) → sumFrom (λ k. kindPathsWith m (kindAt k) g) 0 6 ≡ coverOf m g
+unfolding sumFrom kindAt coverOf pathsWith sumOf
 all-kinds m g = omega arith
 
 -- Rule 13 from the number of paths that a segment is in; the table of segments itself does not matter.
 module _ (pr ke co bi sg : List ℕ) (g c : ℕ) (e : c ≡ coverOf (modelOf [] [] pr ke co [] bi [] []) g) where
   pub covered-once : c ≡ 1 → segment13 (modelOf [] [] pr ke co [] bi sg []) g ≡ false
-  unfolding segment13 coverOf pathsHolding sumOf holding holders pathOf modelOf
+  unfolding segment13 coverOf pathsWith sumOf kindPathsWith holders pathOf modelOf
   covered-once h = rw (← e, h)
 
   pub not-covered-once : (c ≡ 1 → ⊥) → segment13 (modelOf [] [] pr ke co [] bi sg []) g ≡ true
-  unfolding segment13 coverOf pathsHolding sumOf holding holders pathOf modelOf
+  unfolding segment13 coverOf pathsWith sumOf kindPathsWith holders pathOf modelOf
   not-covered-once h = rw (← e, ne-eqb c 1 h)

@@ -7,13 +7,14 @@ use lib.Dec.{ltb, leb}
 use borrow.Author.Tests.{ltb-true, ltb-false, leb-true, le-ltb}
 use Rattle.csdl.specs.Search.{anyFrom, firstFrom, some}
 use Rattle.csdl.proofs.Logic.{any-of, none-any, first-is, none-first}
-use Rattle.csdl.specs.Tables.{Run}
+use Rattle.csdl.specs.declared.Run.{Run}
 use Rattle.csdl.specs.Model.{Model, inRun}
-use Rattle.csdl.specs.Path.{Kind, holders, pathOf}
-use Rattle.csdl.specs.Path.Kind.{partner, key, dependent, principal, binding, target}
+use Rattle.csdl.specs.Path.{holders, pathOf}
+use Rattle.csdl.specs.declared.PathKind.{PathKind}
+use Rattle.csdl.specs.declared.PathKind.the-variants.{Partner, Key, Dependent, Principal, Binding, Target}
 use Rattle.csdl.specs.Paths.{unresolvedIn, unresolvedOf, unresolved, segment14}
 use Rattle.csdl.proofs.Clauses.{rule14-is}
-use Rattle.path_kinds.specs.Kinds.{kindOf}
+use Rattle.path_kinds.specs.Kinds.{kindAt}
 use Rattle.rules_segments.specs.Lowest.{Lowest}
 
 -- The first n tests of a family have been asked.
@@ -60,7 +61,7 @@ empty-run run g h = go (leb (run .first) g) refl
     go true e = le-ltb g (run .first + run .count) (omega (arith, leb-true (run .first) g e, h))
     go false e = refl
 
-pub empty-path : (m : Model) (w : Kind) (r top : ℕ) → pathOf m w r .count ≡ 0 → Lowest (λ g. unresolvedIn m w g r) top top
+pub empty-path : (m : Model) (w : PathKind) (r top : ℕ) → pathOf m w r .count ≡ 0 → Lowest (λ g. unresolvedIn m w g r) top top
 unfolding unresolvedIn
 empty-path m w r top h = record {
   most = omega arith;
@@ -85,19 +86,19 @@ any-six false false false false true f = refl
 any-six false false false false false true = refl
 any-six false false false false false false = refl
 
-pub any-kind : (m : Model) (g : ℕ) → anyFrom (λ j. unresolvedOf m (kindOf j) g) 0 6 ≡ segment14 m g
-unfolding anyFrom kindOf unresolved some
+pub any-kind : (m : Model) (g : ℕ) → anyFrom (λ j. unresolvedOf m (kindAt j) g) 0 6 ≡ segment14 m g
+unfolding anyFrom kindAt unresolved some
 any-kind m g =
-    any-six (unresolvedOf m partner g) (unresolvedOf m key g) (unresolvedOf m dependent g) (unresolvedOf m principal g) (unresolvedOf m binding g) (unresolvedOf m target g)
+    any-six (unresolvedOf m Partner g) (unresolvedOf m Key g) (unresolvedOf m Dependent g) (unresolvedOf m Principal g) (unresolvedOf m Binding g) (unresolvedOf m Target g)
     ∙ sym (rule14-is m g)
 
 -- The lowest segment that does not resolve, by all kinds.
-pub lowest-14 : (m : Model) (top low : ℕ) → Least (λ j g. unresolvedOf m (kindOf j) g) top 6 low → Lowest (λ g. segment14 m g) top low
+pub lowest-14 : (m : Model) (top low : ℕ) → Least (λ j g. unresolvedOf m (kindAt j) g) top 6 low → Lowest (λ g. segment14 m g) top low
 lowest-14 m top low l =
-    let s = least-any (λ j g. unresolvedOf m (kindOf j) g) top 6 low l in
+    let s = least-any (λ j g. unresolvedOf m (kindAt j) g) top 6 low l in
     record { most = s .most; below = λ g h. rw (← any-kind m g) (s .below g h); hit = λ h. rw (← any-kind m low) (s .hit h) }
 
 -- The lowest segment at which a path of one kind does not resolve, by all its records.
-pub lowest-kind : (m : Model) (w : Kind) (top n low : ℕ) → n ≡ holders m w → Least (λ j g. unresolvedIn m w g j) top n low → Lowest (λ g. unresolvedOf m w g) top low
+pub lowest-kind : (m : Model) (w : PathKind) (top n low : ℕ) → n ≡ holders m w → Least (λ j g. unresolvedIn m w g j) top n low → Lowest (λ g. unresolvedOf m w g) top low
 unfolding unresolvedOf
 lowest-kind m w top n low e l = rw (← e) (least-any (λ j g. unresolvedIn m w g j) top n low l)

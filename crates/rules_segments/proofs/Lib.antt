@@ -1,5 +1,4 @@
 pub mod Covering
-pub mod Frame
 pub mod Least
 pub mod Resolved
 pub mod Keeping

@@ -7,7 +7,8 @@ use native.Mathlib.Omega.{arith}
 use lib.Dec.{leb}
 use borrow.Author.Tests.{le-leb, lt-leb, leb-true, leb-false}
 use Rattle.csdl.specs.Model.{Model, inRun}
-use Rattle.csdl.specs.Path.{Kind, holders, pathOf, startOf}
+use Rattle.csdl.specs.Path.{holders, pathOf, startOf}
+use Rattle.csdl.specs.declared.PathKind.{PathKind}
 use Rattle.csdl.specs.Paths.{unresolvedIn}
 use Rattle.csdl.proofs.Logic.{run-in, in-run}
 use Rattle.path_resolution.specs.Resolution.{ResolvedTo}
@@ -15,7 +16,7 @@ use Rattle.rules_segments.specs.Lowest.{Lowest}
 use Rattle.rules_segments.specs.Kept.{RunKept, Resolvable, PathStep}
 use Rattle.rules_segments.proofs.Keeping.{path-step}
 
-module _ (m : Model) (w : Kind) (r : ℕ) (codes : List ℕ) (taken end : ℕ) (t : ResolvedTo m (startOf m w r) (pathOf m w r .first) (pathOf m w r .count) codes taken end) where
+module _ (m : Model) (w : PathKind) (r : ℕ) (codes : List ℕ) (taken end : ℕ) (t : ResolvedTo m (startOf m w r) (pathOf m w r .first) (pathOf m w r .count) codes taken end) where
   out : (g : ℕ) → inRun (pathOf m w r) g ≡ false → unresolvedIn m w g r ≡ false
   unfolding unresolvedIn
   out g e = rw e
@@ -59,7 +60,7 @@ module _ (m : Model) (w : Kind) (r : ℕ) (codes : List ℕ) (taken end : ℕ) (
   lowest-never top h = record { most = omega arith; below = λ g k. unresolved-never h g; hit = λ k. absurd (omega arith) }
 
 -- The same from what the functions that read the path and its start, and resolve it, ensure.
-module _ (m : Model) (w : Kind) (r start first count taken end : ℕ) (codes : List ℕ) (es : start ≡ startOf m w r) (first-is : first ≡ pathOf m w r .first)
+module _ (m : Model) (w : PathKind) (r start first count taken end : ℕ) (codes : List ℕ) (es : start ≡ startOf m w r) (first-is : first ≡ pathOf m w r .first)
     (count-is : count ≡ pathOf m w r .count) (t : ResolvedTo m start first count codes taken end) where
   whole : ResolvedTo m (startOf m w r) (pathOf m w r .first) (pathOf m w r .count) codes taken end
   whole = rw (← es, ← first-is, ← count-is) t

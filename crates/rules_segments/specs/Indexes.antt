@@ -3,7 +3,7 @@ use Prim.Native.Nat.{ℕ}
 use mathlib.Core.Path.{_≡_}
 use mathlib.Core.List.{List}
 use Rattle.lookup.specs.Index.{Indexed}
-use Rattle.lookup.specs.AncestorSets.{setsOf}
+use Rattle.type_hierarchy.specs.AncestorSets.{setsOf}
 use Rattle.model_image.specs.Laid.{typesIn, propertiesIn, namesIn}
 
 -- The index is that of the properties of the image. Shut: a function that only hands an index on finds this as it stands.

@@ -3,16 +3,17 @@ ghost use mathlib.Core.Path.{_≡_};
 ghost use mathlib.Core.List.{[]};
 ghost use Prim.Native.Nat.{ℕ, min, _+_, _≤_, _<_};
 ghost use lib.ListN.{length, getD};
-ghost use Rattle.csdl.specs.Search.{mark, firstFrom};
+ghost use Rattle.csdl.specs.Search.{oneIf, firstFrom};
 ghost use Rattle.csdl.specs.Tables.{segmentCount};
 ghost use Rattle.csdl.specs.Model.{modelOf};
-ghost use Rattle.csdl.specs.Path.{holding};
+ghost use Rattle.csdl.specs.Path.{kindPathsWith};
 ghost use Rattle.csdl.specs.Paths.{segment13};
-ghost use Rattle.path_kinds.specs.Kinds.{kindOf};
 ghost use Rattle.rules_segments.specs.Cover.{inside, coverOf};
 ghost use Rattle.model_image.specs.Limits.{FewBindings, FewConstraints, FewKeys, FewProperties, FewSegments};
+use csdl::PathKind;
 use model_image::segments::segment_count;
 use path_kinds::kinds::holder_count;
+use path_kinds::kinds::kind_at;
 use path_kinds::kinds::path_of;
 
 fn least(a: usize, b: usize) -> usize
@@ -24,7 +25,7 @@ fn least(a: usize, b: usize) -> usize
 // One more for each number of the run.
 fn cover_run(cover: &mut [u16], first: u16, count: u16)
     requires { ⌜ (count < 16) × ((g : ℕ) → g < length (now cover) → getD (now cover) g 0 ≤ 60000) ⌝ }
-    ensures { λ r. ⌜ (length (now (cover .exit)) ≡ length (now (cover .entry))) × ((g : ℕ) → g < length (now (cover .entry)) → getD (now (cover .exit)) g 0 ≡ getD (now (cover .entry)) g 0 + mark (inside first count g)) ⌝ }
+    ensures { λ r. ⌜ (length (now (cover .exit)) ≡ length (now (cover .entry))) × ((g : ℕ) → g < length (now (cover .entry)) → getD (now (cover .exit)) g 0 ≡ getD (now (cover .entry)) g 0 + oneIf (inside first count g)) ⌝ }
 {
     let from = first as usize;
     let end = least(from + (count as usize), cover.len());
@@ -42,11 +43,11 @@ fn cover_kind(
     keys: &[u8],
     constraints: &[u8],
     bindings: &[u8],
-    kind: u16,
+    kind: PathKind,
     cover: &mut [u16],
 )
     requires { ⌜ FewProperties (now properties) × FewKeys (now keys) × FewConstraints (now constraints) × FewBindings (now bindings) × ((g : ℕ) → g < length (now cover) → getD (now cover) g 0 ≤ 50000) ⌝ }
-    ensures { λ r. ⌜ (length (now (cover .exit)) ≡ length (now (cover .entry))) × ((g : ℕ) → g < length (now (cover .entry)) → (getD (now (cover .exit)) g 0 ≡ getD (now (cover .entry)) g 0 + holding (modelOf [] [] (now (properties .entry)) (now (keys .entry)) (now (constraints .entry)) [] (now (bindings .entry)) [] []) (kindOf kind) g) × (holding (modelOf [] [] (now (properties .entry)) (now (keys .entry)) (now (constraints .entry)) [] (now (bindings .entry)) [] []) (kindOf kind) g ≤ 512)) ⌝ }
+    ensures { λ r. ⌜ (length (now (cover .exit)) ≡ length (now (cover .entry))) × ((g : ℕ) → g < length (now (cover .entry)) → (getD (now (cover .exit)) g 0 ≡ getD (now (cover .entry)) g 0 + kindPathsWith (modelOf [] [] (now (properties .entry)) (now (keys .entry)) (now (constraints .entry)) [] (now (bindings .entry)) [] []) kind g) × (kindPathsWith (modelOf [] [] (now (properties .entry)) (now (keys .entry)) (now (constraints .entry)) [] (now (bindings .entry)) [] []) kind g ≤ 512)) ⌝ }
 {
     let n = holder_count(properties, keys, constraints, bindings, kind);
     for r in 0..n {
@@ -63,7 +64,8 @@ fn covers(properties: &[u8], keys: &[u8], constraints: &[u8], bindings: &[u8]) -
     ensures { λ r. ⌜ ((g : ℕ) → g < 1024 → getD r g 0 ≡ coverOf (modelOf [] [] (now (properties .entry)) (now (keys .entry)) (now (constraints .entry)) [] (now (bindings .entry)) [] []) g) ⌝ }
 {
     let mut cover = [0u16; 1024];
-    for kind in 0..6 {
+    for n in 0..6 {
+        let kind = kind_at(n);
         cover_kind(properties, keys, constraints, bindings, kind, &mut cover);
     }
     cover

@@ -6,33 +6,29 @@ ghost use lib.Dec.{leb};
 ghost use lib.ListN.{length, getD};
 ghost use Rattle.csdl.specs.Search.{firstFrom};
 ghost use Rattle.csdl.specs.Image.{modelIn};
-ghost use Rattle.csdl.specs.Path.{pathOf, startOf, holders};
+ghost use Rattle.csdl.specs.Path.{holders};
 ghost use Rattle.csdl.specs.Paths.{unresolvedIn, unresolvedOf, segment14};
 ghost use Rattle.path_resolution.specs.Coded.{Coded};
 ghost use Rattle.path_resolution.specs.Resolution.{ResolvedTo};
 ghost use Rattle.model_image.specs.Laid.{Laid};
 ghost use Rattle.rules_segments.specs.Indexes.{IndexIn, AncestorsIn};
-ghost use Rattle.path_kinds.specs.Kinds.{kindOf};
 ghost use Rattle.rules_segments.specs.Lowest.{Lowest};
 ghost use Rattle.rules_segments.specs.Kept.{RunKept, Resolvable, PathStep, KindStep, PastKept};
-use lookup::ancestors::ancestor_sets;
-use model_image::fields::Run;
+use csdl::PathKind;
 use model_image::layout::Layout;
-use model_image::layout::bindings_of;
-use model_image::layout::children_of;
-use model_image::layout::constraints_of;
-use model_image::layout::keys_of;
 use model_image::layout::names_of;
 use model_image::layout::properties_of;
 use model_image::layout::segments_of;
 use model_image::layout::types_of;
 use model_image::segments::segment_count;
-use path_kinds::kinds::holder_count;
-use path_kinds::kinds::path_of;
-use path_kinds::kinds::start_of;
+use path_kinds::in_image::holders_in;
+use path_kinds::in_image::path_in;
+use path_kinds::in_image::start_in;
+use path_kinds::kinds::kind_at;
 use path_resolution::resolve::Resolved;
 use path_resolution::resolve::Way;
 use path_resolution::resolve::resolve_path;
+use type_hierarchy::ancestors::ancestor_sets;
 
 // The codes of a path, kept at the numbers of its segments.
 fn keep_run(run: &[u32], first: u16, count: u16, codes: &mut [u32])
@@ -59,49 +55,6 @@ fn unresolved_at(first: u16, count: u16, taken: u16, top: u16) -> u16
     if top <= at { top } else { at }
 }
 
-// The number of records that may hold a path of the kind, the path that record r holds and the type reference at which it starts, of the image's tables.
-fn holders_in(image: &[u8], at: Layout, kind: u16) -> u16
-    requires { ⌜ Laid (now image) at ⌝ }
-    ensures { λ n. ⌜ (n ≡ holders (modelIn (now (image .entry))) (kindOf kind)) × (n ≤ 512) ⌝ }
-{
-    holder_count(
-        properties_of(image, at),
-        keys_of(image, at),
-        constraints_of(image, at),
-        bindings_of(image, at),
-        kind,
-    )
-}
-
-fn path_in(image: &[u8], at: Layout, kind: u16, r: u16) -> Run
-    requires { ⌜ Laid (now image) at ⌝ }
-    ensures { λ p. ⌜ (p .first ≡ pathOf (modelIn (now (image .entry))) (kindOf kind) r .first) × (p .count ≡ pathOf (modelIn (now (image .entry))) (kindOf kind) r .count) × (p .first < 2048) × (p .count < 16) ⌝ }
-{
-    path_of(
-        properties_of(image, at),
-        keys_of(image, at),
-        constraints_of(image, at),
-        bindings_of(image, at),
-        kind,
-        r,
-    )
-}
-
-fn start_in(image: &[u8], at: Layout, kind: u16, r: u16) -> u16
-    requires { ⌜ Laid (now image) at ⌝ }
-    ensures { λ t. ⌜ (t ≡ startOf (modelIn (now (image .entry))) (kindOf kind) r) × (t < 256) ⌝ }
-{
-    start_of(
-        properties_of(image, at),
-        keys_of(image, at),
-        constraints_of(image, at),
-        children_of(image, at),
-        bindings_of(image, at),
-        kind,
-        r,
-    )
-}
-
 // A path resolved in the image's tables.
 fn resolve_in(image: &[u8], at: Layout, index: &[u16], ancestors: &[u64], way: Way) -> Resolved
     requires { ⌜ Laid (now image) at × IndexIn (now image) (now index) × AncestorsIn (now image) (now ancestors) × (way .first < 2048) × (way .count < 16) ⌝ }
@@ -120,7 +73,7 @@ fn resolve_in(image: &[u8], at: Layout, index: &[u16], ancestors: &[u64], way: W
 
 // A record that may hold a path of the kind, by its number.
 struct Holder {
-    kind: u16,
+    kind: PathKind,
     r: u16,
 }
 
@@ -134,9 +87,9 @@ fn unresolved_in(
     top: u16,
     codes: &mut [u32],
 ) -> u16
-    requires { ⌜ Laid (now image) at × IndexIn (now image) (now index) × Resolvable (modelIn (now image)) × (holder .r < holders (modelIn (now image)) (kindOf (holder .kind))) × ((modelIn (now image)) .segments ≤ length (now codes)) × AncestorsIn (now image) (now ancestors) ⌝ }
-    ensures { λ low. ⌜ Lowest (λ g. unresolvedIn (modelIn (now (image .entry))) (kindOf (holder .kind)) g (holder .r)) top low ⌝ }
-    ensures { λ low. ⌜ PathStep (modelIn (now (image .entry))) (kindOf (holder .kind)) (holder .r) (now (codes .entry)) (now (codes .exit)) ⌝ }
+    requires { ⌜ Laid (now image) at × IndexIn (now image) (now index) × Resolvable (modelIn (now image)) × (holder .r < holders (modelIn (now image)) (holder .kind)) × ((modelIn (now image)) .segments ≤ length (now codes)) × AncestorsIn (now image) (now ancestors) ⌝ }
+    ensures { λ low. ⌜ Lowest (λ g. unresolvedIn (modelIn (now (image .entry))) (holder .kind) g (holder .r)) top low ⌝ }
+    ensures { λ low. ⌜ PathStep (modelIn (now (image .entry))) (holder .kind) (holder .r) (now (codes .entry)) (now (codes .exit)) ⌝ }
 {
     let kind = holder.kind;
     let r = holder.r;
@@ -165,13 +118,13 @@ fn unresolved_of(
     at: Layout,
     index: &[u16],
     ancestors: &[u64],
-    kind: u16,
+    kind: PathKind,
     top: u16,
     codes: &mut [u32],
 ) -> u16
-    requires { ⌜ Laid (now image) at × IndexIn (now image) (now index) × Resolvable (modelIn (now image)) × (kind < 6) × ((modelIn (now image)) .segments ≤ length (now codes)) × AncestorsIn (now image) (now ancestors) ⌝ }
-    ensures { λ low. ⌜ Lowest (λ g. unresolvedOf (modelIn (now (image .entry))) (kindOf kind) g) top low ⌝ }
-    ensures { λ low. ⌜ KindStep (modelIn (now (image .entry))) kind (now (codes .entry)) (now (codes .exit)) ⌝ }
+    requires { ⌜ Laid (now image) at × IndexIn (now image) (now index) × Resolvable (modelIn (now image)) × ((modelIn (now image)) .segments ≤ length (now codes)) × AncestorsIn (now image) (now ancestors) ⌝ }
+    ensures { λ low. ⌜ Lowest (λ g. unresolvedOf (modelIn (now (image .entry))) kind g) top low ⌝ }
+    ensures { λ low. ⌜ KindStep (modelIn (now (image .entry))) kind (holders (modelIn (now (image .entry))) kind) (now (codes .entry)) (now (codes .exit)) ⌝ }
     ensures { λ low. ⌜ PastKept (modelIn (now (image .entry))) (now (codes .entry)) (now (codes .exit)) ⌝ }
 {
     let n = holders_in(image, at, kind);
@@ -201,7 +154,8 @@ pub fn first_14(image: &[u8], at: Layout, index: &[u16], codes: &mut [u32]) -> u
     let n = segments_in(image, at);
     let ancestors = ancestor_sets(types_of(image, at));
     let mut low = n;
-    for kind in 0..6 {
+    for k in 0..6 {
+        let kind = kind_at(k);
         low = unresolved_of(image, at, index, &ancestors, kind, low, codes);
     }
     if low < n {

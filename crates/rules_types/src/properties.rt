@@ -7,8 +7,6 @@ ghost use Rattle.csdl.specs.Tables.{propertyCount};
 ghost use Rattle.csdl.specs.Model.{modelOf};
 ghost use Rattle.csdl.specs.Properties as rules;
 ghost use Rattle.model_image.specs.Limits.{FewProperties, FewTypes};
-use lookup::kinds::of_kind;
-use lookup::kinds::structured;
 use model_image::properties::property_collection;
 use model_image::properties::property_contains;
 use model_image::properties::property_count;
@@ -18,6 +16,8 @@ use model_image::properties::property_owner;
 use model_image::properties::property_partner;
 use model_image::properties::property_type_ref;
 use model_image::types::type_underlying;
+use type_hierarchy::kinds::of_kind;
+use type_hierarchy::kinds::structured;
 
 // Whether x is Stream, or a type definition of it.
 fn streams(types: &[u8], x: u16) -> bool

@@ -8,7 +8,6 @@ ghost use Rattle.csdl.specs.Tables.{typeBase, typeCount};
 ghost use Rattle.csdl.specs.Model.{modelOf};
 ghost use Rattle.csdl.specs.Types.{type8a, type8b, type8c, type8d, type8e, type8f, type8g, type8h, type8i, type8, type9};
 ghost use Rattle.model_image.specs.Limits.{FewTypes};
-use lookup::bases::ancestor;
 use model_image::types::type_abstract;
 use model_image::types::type_base;
 use model_image::types::type_count;
@@ -16,6 +15,7 @@ use model_image::types::type_kind;
 use model_image::types::type_media;
 use model_image::types::type_open;
 use model_image::types::type_underlying;
+use type_hierarchy::bases::ancestor;
 
 // The number of the direct base; 0 also where there is none.
 fn base_of(types: &[u8], t: u16) -> u16

@@ -7,8 +7,8 @@ use native.Mathlib.Omega.{arith}
 use lib.ListN.{length, length-append}
 use lib.Dec.{eqb, ltb, leb}
 use borrow.Author.Tests.{ltb-true, ltb-false, leb-true, leb-false}
-use Rattle.csdl.specs.Search.{mark, countFrom, sumFrom, tab, flat}
-use Rattle.csdl.specs.Tables.{Run}
+use Rattle.csdl.specs.Search.{oneIf, countFrom, sumFrom, tab, flat}
+use Rattle.csdl.specs.declared.Run.{Run}
 use Rattle.csdl.specs.Model.{Model, inRun}
 use Rattle.csdl.specs.Find.{structured, ancestorOrSelf}
 use Rattle.csdl.specs.Path.{Segment}
@@ -16,7 +16,7 @@ use Rattle.csdl.specs.Path.Segment.{name, cast}
 use Rattle.csdl.specs.Instance.{Instance, itemBytes}
 use Rattle.csdl.specs.Conforms.{slotsWith}
 use Rattle.csdl.specs.Walk.{Item, slotNamed, itemAt, contents, contentsBy, opening, openedBy, after, nextStage, walked, opened, bytesOfNumber, bytesOfItem}
-use Rattle.csdl.specs.Walk.Item.{null, held}
+use Rattle.csdl.specs.Walk.Item.{null, value}
 use Rattle.csdl.specs.Walk.Origin.{at-slot, at-cast}
 use Rattle.csdl.proofs.Logic.{sum-same, tab-length}
 use Rattle.soundness.proofs.Facts.{InstanceFacts}
@@ -38,15 +38,15 @@ module _ (m : Model) (i : Instance) where
   after-length : (g : Segment) (x : Item) → length (after m i g x) ≤ 1 + sum (weight i) (openedBy (opening m i g x))
   unfolding after opening sum
   after-length (name nm) (null o) = omega arith
-  after-length (name nm) (held r v) = go (cond (structured m r) (slotNamed m i nm v) 0)
+  after-length (name nm) (value r v) = go (cond (structured m r) (slotNamed m i nm v) 0)
     where
       go : (z : ℕ) → length (contentsBy i z) ≤ 1 + sum (weight i) (openedBy z)
       go zero = omega arith
       go (suc s) = omega (arith, contents-length i s)
   after-length (cast c) (null o) = omega arith
-  after-length (cast c) (held r v) = go (structured m r) (ancestorOrSelf m c r)
+  after-length (cast c) (value r v) = go (structured m r) (ancestorOrSelf m c r)
     where
-      go : (a b : Bool) → length (cond a (cond b (held r v) (null (at-cast c v)) ∷ []) []) ≤ 1
+      go : (a b : Bool) → length (cond a (cond b (value r v) (null (at-cast c v)) ∷ []) []) ≤ 1
       go true b = omega arith
       go false b = omega arith
 
@@ -86,10 +86,10 @@ run-length r i (suc n) = go (run-length r (i + 1) n) (leb (r .first) i) refl (lt
     e = r .first + r .count
 
     go : countFrom (λ k. inRun r k) (i + 1) n ≡ min (i + 1 + n) e - max (i + 1) f →
-        (a : Bool) → leb f i ≡ a → (b : Bool) → ltb i e ≡ b → mark (leb f i && ltb i e) + countFrom (λ k. inRun r k) (i + 1) n ≡ min (i + suc n) e - max i f
-    go rest true p true q = let z : mark (leb f i && ltb i e) ≡ 1 = rw (p, q) in omega (arith, leb-true f i p, ltb-true i e q)
-    go rest true p false q = let z : mark (leb f i && ltb i e) ≡ 0 = rw (p, q) in omega (arith, leb-true f i p, ltb-false i e q)
-    go rest false p b q = let z : mark (leb f i && ltb i e) ≡ 0 = rw p in omega (arith, leb-false f i p)
+        (a : Bool) → leb f i ≡ a → (b : Bool) → ltb i e ≡ b → oneIf (leb f i && ltb i e) + countFrom (λ k. inRun r k) (i + 1) n ≡ min (i + suc n) e - max i f
+    go rest true p true q = let z : oneIf (leb f i && ltb i e) ≡ 1 = rw (p, q) in omega (arith, leb-true f i p, ltb-true i e q)
+    go rest true p false q = let z : oneIf (leb f i && ltb i e) ≡ 0 = rw (p, q) in omega (arith, leb-true f i p, ltb-false i e q)
+    go rest false p b q = let z : oneIf (leb f i && ltb i e) ≡ 0 = rw p in omega (arith, leb-false f i p)
 
 module _ (m : Model) (i : Instance) (j : InstanceFacts m i) where
   -- The runs of the slots have all items, each once.
@@ -98,7 +98,7 @@ module _ (m : Model) (i : Instance) (j : InstanceFacts m i) where
   all-items =
       sum-same (λ s. i .slotItems s .count) (λ s. countFrom (λ k. inRun (i .slotItems s) k) 0 (i .items)) 0 (i .slots)
       (λ s a b. let z = run-length (i .slotItems s) 0 (i .items) in let y = j .items-fit s (omega arith) in omega arith)
-      ∙ sum-swap (λ s k. mark (inRun (i .slotItems s) k)) 0 (i .slots) 0 (i .items)
+      ∙ sum-swap (λ s k. oneIf (inRun (i .slotItems s) k)) 0 (i .slots) 0 (i .items)
       ∙ sum-same (λ k. slotsWith i k) (λ k. 1) 0 (i .items) (λ k a b. j .item-once k (omega arith))
       ∙ sum-ones 0 (i .items)
 
@@ -109,7 +109,7 @@ module _ (m : Model) (i : Instance) (j : InstanceFacts m i) where
 pub item-length : (x : Item) → length (bytesOfItem x) ≡ itemBytes
 unfolding bytesOfItem bytesOfNumber
 item-length (null o) = refl
-item-length (held r h) = refl
+item-length (value r h) = refl
 
 pub bytes-length : (xs : List Item) → length (flat (λ x. bytesOfItem x) xs) ≡ itemBytes * length xs
 unfolding flat

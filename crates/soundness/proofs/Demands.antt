@@ -12,15 +12,17 @@ use lib.Dec.{ltb}
 use borrow.Author.Tests.{ltb-true, ltb-false, lt-ltb, le-ltb, not-false}
 use Rattle.csdl.specs.Image.{modelIn}
 use Rattle.csdl.specs.Find.{ancestorOrSelf}
-use Rattle.csdl.specs.Path.{Segment, Kind, segmentsOf, resolves, endOf, pathOf, startOf, pathEnd}
-use Rattle.csdl.specs.Path.Kind.{key}
+use Rattle.csdl.specs.Path.{Segment, segmentsOf, resolves, endOf, pathOf, startOf, pathEnd}
+use Rattle.csdl.specs.declared.PathKind.{PathKind}
+use Rattle.csdl.specs.declared.PathKind.the-variants.{Key}
 use Rattle.csdl.specs.Instance.{instanceIn, itemBytes}
 use Rattle.csdl.specs.Conforms.{instanceAnswer}
 use Rattle.csdl.specs.Verdict.{modelAnswer}
 use Rattle.csdl.specs.Verdict.Answer.{accepted}
-use Rattle.csdl.specs.Walk.{Chosen, walked, opened, runs, start, chosenStart, walk27, walk28, walk29, walkPath, walkResults, walkOpened, walkAnswer, resultBytes}
-use Rattle.csdl.specs.Walk.Chosen.{none, chosen}
-use Rattle.csdl.specs.Walk.Item.{held}
+use Rattle.csdl.specs.Walk.{walked, opened, reachesEnd, start, chosenStart, walk27, walk28, walk29, walkPath, walkResults, walkOpened, walkAnswer, resultBytes}
+use Rattle.csdl.specs.declared.Chosen.{Chosen}
+use Rattle.csdl.specs.declared.Chosen.the-variants.{NoPath, PathOf}
+use Rattle.csdl.specs.Walk.Item.{value}
 use Rattle.csdl.specs.Relations.{Ancestor}
 use Rattle.csdl.specs.Types.{type9, rule9}
 use Rattle.csdl.specs.Accepted.{ModelPasses, InstancePasses, WalkPasses}
@@ -69,29 +71,29 @@ module _ (model image : List ℕ) (conforms : instanceAnswer model image ≡ acc
       Demand (modelIn model) (instanceIn image) gs (endOf (modelIn model) t gs) v
   any-path t gs res integral = demand (modelIn model) (instanceIn image) of-model of-instance (inner-way (modelIn model) t gs res integral)
 
-  key-one : (r : ℕ) → Held (modelIn model) key r → (v : ℕ) → v < instanceIn image .nodes →
-      ancestorOrSelf (modelIn model) (startOf (modelIn model) key r) (instanceIn image .nodeType v) ≡ true →
-      One (modelIn model) (instanceIn image) (segmentsOf (modelIn model) (pathOf (modelIn model) key r)) v
+  key-one : (r : ℕ) → Held (modelIn model) Key r → (v : ℕ) → v < instanceIn image .nodes →
+      ancestorOrSelf (modelIn model) (startOf (modelIn model) Key r) (instanceIn image .nodeType v) ≡ true →
+      One (modelIn model) (instanceIn image) (segmentsOf (modelIn model) (pathOf (modelIn model) Key r)) v
   key-one r h =
       let k = passes-all .model-passes .model-kept in
       one (modelIn model) (instanceIn image) of-model of-instance (key-single (modelIn model) k) (key-way (modelIn model) k r h)
       (key-plain (modelIn model) k r h)
 
   -- Every path that a record of the model holds: w is its kind and r its record; v is a node at its start type.
-  pub every-path : (w : Kind) (r : ℕ) → Held (modelIn model) w r → (v : ℕ) → v < instanceIn image .nodes →
+  pub every-path : (w : PathKind) (r : ℕ) → Held (modelIn model) w r → (v : ℕ) → v < instanceIn image .nodes →
       ancestorOrSelf (modelIn model) (startOf (modelIn model) w r) (instanceIn image .nodeType v) ≡ true →
       Demand (modelIn model) (instanceIn image) (segmentsOf (modelIn model) (pathOf (modelIn model) w r)) (pathEnd (modelIn model) w r) v
   every-path w r h = demand (modelIn model) (instanceIn image) of-model of-instance (path-way (modelIn model) (passes-all .model-passes .model-kept) of-model w r h)
 
   -- Each such path has a place and a number, by which a walk takes it; and what a place and a number choose is such a path.
-  pub each-has-place : (w : Kind) (r : ℕ) → Held (modelIn model) w r → walkPath model (heldPlace (modelIn model) w r) (heldNumber w) ≡ chosen w r
+  pub each-has-place : (w : PathKind) (r : ℕ) → Held (modelIn model) w r → walkPath model (heldPlace (modelIn model) w r) (heldNumber w) ≡ PathOf w r
   each-has-place w r h = held-chosen (modelIn model) w r h
 
-  pub each-is-held : (place n : ℕ) (w : Kind) (r : ℕ) → walkPath model place n ≡ chosen w r → Held (modelIn model) w r
+  pub each-is-held : (place n : ℕ) (w : PathKind) (r : ℕ) → walkPath model place n ≡ PathOf w r → Held (modelIn model) w r
   each-is-held place n w r e = held-at (modelIn model) place n w r e
 
   -- The clauses, over what a walk answers and writes: place and path number n choose the path.
-  module _ (place n : ℕ) (w : Kind) (r : ℕ) (path : walkPath model place n ≡ chosen w r)
+  module _ (place n : ℕ) (w : PathKind) (r : ℕ) (path : walkPath model place n ≡ PathOf w r)
       (v : ℕ) (there : v < instanceIn image .nodes)
       (fitting : ancestorOrSelf (modelIn model) (startOf (modelIn model) w r) (instanceIn image .nodeType v) ≡ true) where
     holds-it : Held (modelIn model) w r
@@ -114,7 +116,7 @@ module _ (model image : List ℕ) (conforms : instanceAnswer model image ≡ acc
     opened-are = rw path
 
     -- (3b) The walk is not refused where the result buffer has room for an item for the start, each slot and each item: it answers the number of
-    -- results and the number of slots that it opened. And it runs to its end: every segment is taken.
+    -- results and the number of slots that it opened. And it reaches its end: every segment is taken.
     pub not-refused : (buffer : List ℕ) → itemBytes * (1 + instanceIn image .slots + instanceIn image .items) ≤ length buffer →
         walkAnswer model image place n v buffer ≡ accepted (length (walkResults model image place n v) ∷ length (walkOpened model image place n v) ∷ [])
     unfolding walk28 walk29
@@ -133,7 +135,7 @@ module _ (model image : List ℕ) (conforms : instanceAnswer model image ≡ acc
         )
 
     pub takes-every-segment :
-        runs (modelIn model) (instanceIn image) (segmentsOf (modelIn model) (pathOf (modelIn model) w r)) (start (instanceIn image) v) ≡ true
+        reachesEnd (modelIn model) (instanceIn image) (segmentsOf (modelIn model) (pathOf (modelIn model) w r)) (start (instanceIn image) v) ≡ true
     takes-every-segment = of-path .to-its-end
 
     -- (3c) Each result is null, or lies at the path's declared type; one of structured type is a node of that type.
@@ -148,14 +150,14 @@ module _ (model image : List ℕ) (conforms : instanceAnswer model image ≡ acc
     nulls-have-origin = rw results-are (of-path .each-null)
 
     -- (3e) A key path has exactly one result, and it is not null: it has a type and a handle.
-    pub one-result : w ≡ key → (type handle : ℕ) × (walkResults model image place n v ≡ held type handle ∷ [])
+    pub one-result : w ≡ Key → (type handle : ℕ) × (walkResults model image place n v ≡ value type handle ∷ [])
     one-result is-key =
         let m = modelIn model in
         let i = instanceIn image in
-        let h = subst (λ (z : Kind). Held m z r) is-key holds-it in
-        let f = subst (λ (z : Kind). ancestorOrSelf m (startOf m z r) (i .nodeType v) ≡ true) is-key fitting in
+        let h = subst (λ (z : PathKind). Held m z r) is-key holds-it in
+        let f = subst (λ (z : PathKind). ancestorOrSelf m (startOf m z r) (i .nodeType v) ≡ true) is-key fitting in
         let o = key-one r h v there f in
-        let e = subst (λ (z : Kind). walked m i (segmentsOf m (pathOf m z r)) (start i v) ≡ held (o .type) (o .handle) ∷ []) (sym is-key) (o .only) in
+        let e = subst (λ (z : PathKind). walked m i (segmentsOf m (pathOf m z r)) (start i v) ≡ value (o .type) (o .handle) ∷ []) (sym is-key) (o .only) in
         (o .type, o .handle, results-are ∙ e)
 
     -- (3f) No slot is opened twice.
@@ -178,9 +180,9 @@ module _ (model image : List ℕ) (conforms : instanceAnswer model image ≡ acc
 -- there and at the path's start type, and the buffer has room. It reports the number of results and the number of slots opened.
 pub record Premises (model image : List ℕ) (place n v : ℕ) (buffer values : List ℕ) : Type 0 where
   pub conforms : instanceAnswer model image ≡ accepted []
-  pub kind : Kind
+  pub kind : PathKind
   pub holder : ℕ
-  pub path : walkPath model place n ≡ chosen kind holder
+  pub path : walkPath model place n ≡ PathOf kind holder
   pub there : v < instanceIn image .nodes
   pub fitting : ancestorOrSelf (modelIn model) (startOf (modelIn model) kind holder) (instanceIn image .nodeType v) ≡ true
   pub room : itemBytes * (1 + instanceIn image .slots + instanceIn image .items) ≤ length buffer
@@ -196,8 +198,8 @@ premises-of-walk model image place n v buffer values e =
     go : WalkPasses model image place n v buffer → values ≡ length (walkResults model image place n v) ∷ length (walkOpened model image place n v) ∷ [] →
         (c : Chosen) → walkPath model place n ≡ c → walk27 c ≡ false → walk28 (modelIn model) (instanceIn image) (chosenStart (modelIn model) c) v ≡ false →
         Premises model image place n v buffer values
-    go p s none q x y = absurd (false≢true (sym x))
-    go p s (chosen w r) q x y =
+    go p s NoPath q x y = absurd (false≢true (sym x))
+    go p s (PathOf w r) q x y =
         let there = ltb v (instanceIn image .nodes) in
         let fits = ancestorOrSelf (modelIn model) (startOf (modelIn model) w r) (instanceIn image .nodeType v) in
         let z = or-no (not there) (not fits) y in

@@ -2,7 +2,7 @@
 use Prim.Native.Nat.{ℕ, zero, suc, _+_, _≤_, _<_}
 use mathlib.Core.Path.{_≡_}
 use mathlib.Core.Bool.{true, false}
-use Rattle.csdl.specs.Search.{mark}
+use Rattle.csdl.specs.Search.{oneIf}
 use Rattle.csdl.specs.Model.{Model, inRun}
 use Rattle.csdl.specs.Find.{ancestor, isNameOf, structured, complex}
 use Rattle.csdl.specs.Properties.{sameName, redeclares}
@@ -39,7 +39,7 @@ pub record InstanceFacts (m : Model) (i : Instance) : Type 0 where
   pub slot-once : (s : ℕ) → s < i .slots → nodesWith i s ≡ 1
   pub item-once : (k : ℕ) → k < i .items → slotsWith i k ≡ 1
   -- 23
-  pub slots-named : (v p : ℕ) → v < i .nodes → p < m .properties → slotsOf i v p ≡ mark (isNameOf m (i .nodeType v) p)
+  pub slots-named : (v p : ℕ) → v < i .nodes → p < m .properties → slotsOf i v p ≡ oneIf (isNameOf m (i .nodeType v) p)
   -- 24
   pub null-fits : (s : ℕ) → s < i .slots → i .state s ≡ 0 → m .nullable (i .slotProperty s) ≡ true
   pub many-fits : (s : ℕ) → s < i .slots → i .state s ≡ 2 → m .collection (i .slotProperty s) ≡ true

@@ -8,7 +8,7 @@ use native.Mathlib.Omega.{arith}
 use lib.ListN.{length, getD}
 use lib.Dec.{eqb}
 use borrow.Author.Tests.{eqb-true, eqb-false, eq-eqb, ne-eqb}
-use Rattle.csdl.specs.Search.{mark, sumFrom, tab, flat, all}
+use Rattle.csdl.specs.Search.{oneIf, sumFrom, tab, flat, all}
 use Rattle.csdl.proofs.Logic.{sum-same}
 use Rattle.soundness.specs.Lists.{All, Distinct}
 use Rattle.soundness.specs.Lists.All.{none, both}
@@ -146,7 +146,7 @@ Alike a b = (f : ℕ → ℕ) → sum f a ≡ sum f b
 
 -- How often x stands in a list.
 abbrev times : ℕ → ℕ → ℕ
-times x y = mark (eqb x y)
+times x y = oneIf (eqb x y)
 
 absent : (x : ℕ) {l : List ℕ} → All (λ y. x ≡ y → ⊥) l → sum (times x) l ≡ 0
 unfolding sum
@@ -163,7 +163,7 @@ unfolding sum Distinct
 often x [] d = omega arith
 often x (y ∷ l) d = go (eqb x y) refl (often x l (d .1))
   where
-    go : (b : Bool) → eqb x y ≡ b → sum (times x) l ≤ 1 → mark (eqb x y) + sum (times x) l ≤ 1
+    go : (b : Bool) → eqb x y ≡ b → sum (times x) l ≤ 1 → oneIf (eqb x y) + sum (times x) l ≤ 1
     go true q rest = let e : x ≡ y = eqb-true x y q in let z : sum (times x) l ≡ 0 = rw e (absent y (d .0)) in rw (q, z) (omega arith)
     go false q rest = rw q (omega arith)
 

@@ -14,7 +14,7 @@ use Rattle.csdl.specs.Path.{Segment}
 use Rattle.csdl.specs.Instance.{Instance}
 use Rattle.csdl.specs.Conforms.{isNull, nodesWith, slotsWith}
 use Rattle.csdl.specs.Walk.{itemAt, contents, opening, after}
-use Rattle.csdl.specs.Walk.Item.{null, held}
+use Rattle.csdl.specs.Walk.Item.{null, value}
 use Rattle.csdl.specs.Walk.Origin.{at-slot, at-cast}
 use Rattle.csdl.specs.Relations.{Holds}
 use Rattle.csdl.proofs.Logic.{and-cases, and-both, or-cases, or-left, or-right, in-run, run-in, at-most-one}
@@ -38,8 +38,8 @@ module _ (m : Model) (i : Instance) (k : ModelFacts m) (j : InstanceFacts m i) w
   unfolding slotsWith
   same-slot s z n b l h e f = at-most-one (λ u. inRun (i .slotItems u) n) (i .slots) s z (omega (arith, j .item-once n b)) l h e f
 
-  one-holder : (v x w : ℕ) → Holds m i v w → Holds m i x w → v ≡ x
-  one-holder v x w h g =
+  one-with : (v x w : ℕ) → Holds m i v w → Holds m i x w → v ≡ x
+  one-with v x w h g =
       let e : h .item ≡ g .item = j .held-once v x w h g in
       let s : h .slot ≡ g .slot = same-slot (h .slot) (g .slot) (h .item) (h .item-there) (h .slot-there) (g .slot-there) (h .of-slot) (rw e (g .of-slot)) in
       same-node v x (h .slot) (h .node-there) (g .node-there) (h .of-node) (rw s (g .of-node))
@@ -53,14 +53,14 @@ module _ (m : Model) (i : Instance) (k : ModelFacts m) (j : InstanceFacts m i) w
   top-same : (a b d u : ℕ) → Deep m i a d u → Deep m i b d u → a ≡ b
   unfolding Deep
   top-same a b zero u e f = sym e ∙ f
-  top-same a b (suc d) u r s = top-same a b d (r .0) (r .2) (rw (one-holder (r .0) (s .0) u (r .1) (s .1)) (s .2))
+  top-same a b (suc d) u r s = top-same a b d (r .0) (r .2) (rw (one-with (r .0) (s .0) u (r .1) (s .1)) (s .2))
 
   depth-same : (a d e u : ℕ) → Deep m i a d u → Deep m i a e u → d ≡ e
   unfolding Deep
   depth-same a zero zero u r s = refl
   depth-same a zero (suc e) u r s = absurd (j .not-within e a (subst (λ (z : ℕ). Deep m i a (suc e) z) r s))
   depth-same a (suc d) zero u r s = absurd (j .not-within d a (subst (λ (z : ℕ). Deep m i a (suc d) z) s r))
-  depth-same a (suc d) (suc e) u r s = ap suc (depth-same a d e (r .0) (r .2) (rw (one-holder (r .0) (s .0) u (r .1) (s .1)) (s .2)))
+  depth-same a (suc d) (suc e) u r s = ap suc (depth-same a d e (r .0) (r .2) (rw (one-with (r .0) (s .0) u (r .1) (s .1)) (s .2)))
 
   -- What takes the place of an integral property is integral.
   integral-refined : (p q : ℕ) → Refines m p q → integral m p ≡ true → integral m q ≡ true
@@ -157,7 +157,7 @@ module _ (m : Model) (i : Instance) (k : ModelFacts m) (j : InstanceFacts m i) w
         }
 
     module _ (gs : List Segment) (t : ℕ) (up : At m t (m .typeRef (i .slotProperty s)))
-        (rest : (r w : ℕ) → Fits m i t (held r w) → Distinct (below m i gs (held r w)) × All (Under w) (below m i gs (held r w))) where
+        (rest : (r w : ℕ) → Fits m i t (value r w) → Distinct (below m i gs (value r w)) × All (Under w) (below m i gs (value r w))) where
       siblings : (n c : ℕ) → i .slotItems s .first ≤ n → n + c ≤ i .slotItems s .first + i .slotItems s .count →
           Distinct (flat (below m i gs) (tab (λ z. itemAt i s z) n c)) × All (Beyond s n) (flat (below m i gs) (tab (λ z. itemAt i s z) n c))
       unfolding flat tab itemAt Distinct
@@ -177,12 +177,12 @@ module _ (m : Model) (i : Instance) (k : ModelFacts m) (j : InstanceFacts m i) w
           first f z y = record { item = n; from = omega arith; in-slot = e; not-null = f; under = y }
 
           go : Distinct others × All (Beyond s (n + 1)) others → (b : Bool) → isNull i n ≡ b →
-              Distinct (below m i gs (cond b (null (at-slot s)) (held (i .itemRef n) (i .itemHandle n))) ++ others)
-              × All (Beyond s n) (below m i gs (cond b (null (at-slot s)) (held (i .itemRef n) (i .itemHandle n))) ++ others)
+              Distinct (below m i gs (cond b (null (at-slot s)) (value (i .itemRef n) (i .itemHandle n))) ++ others)
+              × All (Beyond s n) (below m i gs (cond b (null (at-slot s)) (value (i .itemRef n) (i .itemHandle n))) ++ others)
           go w true f = rw (below-null m i gs (at-slot s)) (w .0, all-map later (w .1))
           go w false f =
-              let x : Fits m i t (held (i .itemRef n) (i .itemHandle n)) =
-              fits-up m i t (m .typeRef (i .slotProperty s)) up (held (i .itemRef n) (i .itemHandle n)) (rw f at (item-typed m i k j s n sl e)) in
+              let x : Fits m i t (value (i .itemRef n) (i .itemHandle n)) =
+              fits-up m i t (m .typeRef (i .slotProperty s)) up (value (i .itemRef n) (i .itemHandle n)) (rw f at (item-typed m i k j s n sl e)) in
               let h = rest (i .itemRef n) (i .itemHandle n) x in
               (distinct-append (λ z y p q. apart n z y e f p q) (h .1) (w .1) (h .0) (w .0), all-append (all-map (first f) (h .1)) (all-map later (w .1)))
 
@@ -200,8 +200,8 @@ module _ (m : Model) (i : Instance) (k : ModelFacts m) (j : InstanceFacts m i) w
   self v s l e = record { depth = 0; node = v; node-small = l; in-node = e; within = refl }
 
   -- No slot is opened twice below an item, and all of them are of nodes within it.
-  pub once : {t u : ℕ} {gs : List Segment} → Way m (inner (integral m)) t gs u → (r v : ℕ) → Fits m i t (held r v) →
-      Distinct (below m i gs (held r v)) × All (Under v) (below m i gs (held r v))
+  pub once : {t u : ℕ} {gs : List Segment} → Way m (inner (integral m)) t gs u → (r v : ℕ) → Fits m i t (value r v) →
+      Distinct (below m i gs (value r v)) × All (Under v) (below m i gs (value r v))
   unfolding below opening after Fits Distinct inner
   once end r v f = (tt, none)
   once {t} (by-name {p} {nm} {gs} st e o w) r v f =
@@ -211,7 +211,7 @@ module _ (m : Model) (i : Instance) (k : ModelFacts m) (j : InstanceFacts m i) w
       rw (sr, a .slot-is) (go n a (hasName gs) refl o (λ x y. once w x y))
     where
       go : (v < i .nodes) × (i .nodeType v ≡ r) → (a : Opens m i k j nm p v) → (b : Bool) → hasName gs ≡ b → inner (integral m) b p ≡ true →
-          ((x y : ℕ) → Fits m i (m .typeRef p) (held x y) → Distinct (below m i gs (held x y)) × All (Under y) (below m i gs (held x y))) →
+          ((x y : ℕ) → Fits m i (m .typeRef p) (value x y) → Distinct (below m i gs (value x y)) × All (Under y) (below m i gs (value x y))) →
           Distinct (a .slot ∷ flat (below m i gs) (contents i (a .slot))) × All (Under v) (a .slot ∷ flat (below m i gs) (contents i (a .slot)))
       go n a false h q rest =
           rw (flat-none (below m i gs) (below-none m i gs h) (contents i (a .slot))) ((none, tt), both (self v (a .slot) (n .0) (a .slot-in)) none)
@@ -224,9 +224,9 @@ module _ (m : Model) (i : Instance) (k : ModelFacts m) (j : InstanceFacts m i) w
           )
   once {t} (by-cast {c} {gs} sc e w) r v f =
       let sr = structured-at m k t r (f .0) (structured-up m k t c (at-sound m t c e) sc) in
-      rw (sr, flat-one (below m i gs) (cond (ancestorOrSelf m c r) (held r v) (null (at-cast c v)))) (go (ancestorOrSelf m c r) refl (once w r v))
+      rw (sr, flat-one (below m i gs) (cond (ancestorOrSelf m c r) (value r v) (null (at-cast c v)))) (go (ancestorOrSelf m c r) refl (once w r v))
     where
-      go : (b : Bool) → ancestorOrSelf m c r ≡ b → (Fits m i c (held r v) → Distinct (below m i gs (held r v)) × All (Under v) (below m i gs (held r v))) →
-          Distinct (below m i gs (cond b (held r v) (null (at-cast c v)))) × All (Under v) (below m i gs (cond b (held r v) (null (at-cast c v))))
+      go : (b : Bool) → ancestorOrSelf m c r ≡ b → (Fits m i c (value r v) → Distinct (below m i gs (value r v)) × All (Under v) (below m i gs (value r v))) →
+          Distinct (below m i gs (cond b (value r v) (null (at-cast c v)))) × All (Under v) (below m i gs (cond b (value r v) (null (at-cast c v))))
       go true q rest = rest (at-sound m c r q, f .1)
       go false q rest = rw (below-null m i gs (at-cast c v)) (tt, none)

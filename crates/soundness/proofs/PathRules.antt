@@ -10,14 +10,16 @@ use borrow.Author.Tests.{eqb-false, ltb-true, ltb-false, not-false, not-true}
 use Rattle.csdl.specs.Search.{tab, all, some, butLast, lastOr}
 use Rattle.csdl.specs.Model.{Model, present, inRun, recordAt, typesAt, propertiesAt, keysAt, constraintsAt, childrenAt, bindingsAt, segmentsAt, places}
 use Rattle.csdl.specs.Find.{complex, complexStep, containStep, integral, structured}
-use Rattle.csdl.specs.Path.{Segment, Step, Kind, segmentAt, segmentsOf, along, stepAt, movesTo, resolves, stepsOf, holders, pathOf, startOf, pathSteps, pathEnd, properties, isProperty, isOther}
+use Rattle.csdl.specs.Path.{Segment, Step, segmentAt, segmentsOf, along, stepAt, movesTo, resolves, stepsOf, holders, pathOf, startOf, pathSteps, pathEnd, properties, noProperty, isProperty, isOther}
+use Rattle.csdl.specs.declared.PathKind.{PathKind}
 use Rattle.csdl.specs.Path.Segment.{name, cast}
-use Rattle.csdl.specs.Path.Step.{property, type}
-use Rattle.csdl.specs.Path.Kind.{partner, key, dependent, principal, binding, target}
+use Rattle.csdl.specs.Path.Step.{property, type, nothing}
+use Rattle.csdl.specs.declared.PathKind.the-variants.{Partner, Key, Dependent, Principal, Binding, Target}
 use Rattle.csdl.proofs.Clauses.{rule14-is, no-kind}
 use Rattle.csdl.specs.Paths.{unresolvedIn, unresolvedOf, unresolved, rule14, hasCast, keyStep, keyEnd, keyType, key15, key15c, key15d, key15e, rule15, constraintStep, brokenInner, constraint16, rule16, property17, property17b, rule17, nonContainment, targetStep, binding19, binding19c, binding19g, rule19}
-use Rattle.csdl.specs.Walk.{Chosen, ifPresent, pathChosen}
-use Rattle.csdl.specs.Walk.Chosen.{none, chosen}
+use Rattle.csdl.specs.Walk.{ifPresent, pathChosen}
+use Rattle.csdl.specs.declared.Chosen.{Chosen}
+use Rattle.csdl.specs.declared.Chosen.the-variants.{NoPath, PathOf}
 use Rattle.csdl.specs.declared.Record.{Record}
 use Rattle.csdl.specs.declared.Record.the-variants.{OfSchema, OfType, OfProperty, OfKey, OfConstraint, OfChild, OfBinding, OfSegment, Nowhere}
 use Rattle.csdl.specs.Accepted.{ModelKept}
@@ -58,42 +60,42 @@ in-table m place =
     taken (InTable m) (ltb place (places m)) _ _ (λ h. omega (arith, ltb-true place (places m) h, ltb-false place (segmentsAt m) h7)) (λ h. tt))))))))
 
 unfoldable HeldBy : Model → Chosen → Type 0
-HeldBy m none = Unit {0}
-HeldBy m (chosen w r) = Held m w r
+HeldBy m NoPath = Unit {0}
+HeldBy m (PathOf w r) = Held m w r
 
-held-by : (m : Model) (w : Kind) (r : ℕ) → r < holders m w → HeldBy m (ifPresent m w r)
+held-by : (m : Model) (w : PathKind) (r : ℕ) → r < holders m w → HeldBy m (ifPresent m w r)
 unfolding HeldBy
-held-by m w r l = taken (HeldBy m) (present (pathOf m w r)) (chosen w r) none (λ e. record { holder-there = l; path-there = e }) (λ e. tt)
+held-by m w r l = taken (HeldBy m) (present (pathOf m w r)) (PathOf w r) NoPath (λ e. record { holder-there = l; path-there = e }) (λ e. tt)
 
 all-held : (m : Model) (r : Record) (n : ℕ) → InTable m r → HeldBy m (pathChosen m r n)
 unfolding HeldBy pathChosen InTable holders
 all-held m (OfSchema s) n l = tt
 all-held m (OfType t) n l = tt
-all-held m (OfProperty p) n l = taken (HeldBy m) (eqb n 0) (ifPresent m partner p) none (λ e. held-by m partner p l) (λ e. tt)
-all-held m (OfKey k) n l = taken (HeldBy m) (eqb n 0) (ifPresent m key k) none (λ e. held-by m key k l) (λ e. tt)
+all-held m (OfProperty p) n l = taken (HeldBy m) (eqb n 0) (ifPresent m Partner p) NoPath (λ e. held-by m Partner p l) (λ e. tt)
+all-held m (OfKey k) n l = taken (HeldBy m) (eqb n 0) (ifPresent m Key k) NoPath (λ e. held-by m Key k l) (λ e. tt)
 all-held m (OfConstraint c) n l =
-    taken (HeldBy m) (eqb n 0) (ifPresent m dependent c) _ (λ e. held-by m dependent c l)
-    (λ e. taken (HeldBy m) (eqb n 1) (ifPresent m principal c) none (λ f. held-by m principal c l) (λ f. tt))
+    taken (HeldBy m) (eqb n 0) (ifPresent m Dependent c) _ (λ e. held-by m Dependent c l)
+    (λ e. taken (HeldBy m) (eqb n 1) (ifPresent m Principal c) NoPath (λ f. held-by m Principal c l) (λ f. tt))
 all-held m (OfChild h) n l = tt
 all-held m (OfBinding b) n l =
-    taken (HeldBy m) (eqb n 0) (ifPresent m binding b) _ (λ e. held-by m binding b l)
-    (λ e. taken (HeldBy m) (eqb n 1) (ifPresent m target b) none (λ f. held-by m target b l) (λ f. tt))
+    taken (HeldBy m) (eqb n 0) (ifPresent m Binding b) _ (λ e. held-by m Binding b l)
+    (λ e. taken (HeldBy m) (eqb n 1) (ifPresent m Target b) NoPath (λ f. held-by m Target b l) (λ f. tt))
 all-held m (OfSegment g) n l = tt
 all-held m Nowhere n l = tt
 
-pub held-at : (m : Model) (place n : ℕ) (w : Kind) (r : ℕ) → pathChosen m (recordAt m place) n ≡ chosen w r → Held m w r
+pub held-at : (m : Model) (place n : ℕ) (w : PathKind) (r : ℕ) → pathChosen m (recordAt m place) n ≡ PathOf w r → Held m w r
 unfolding HeldBy
 held-at m place n w r e = subst (HeldBy m) e (all-held m (recordAt m place) n (in-table m place))
 
 -- Each held path is the one that its place and number choose.
-pub held-chosen : (m : Model) (w : Kind) (r : ℕ) → Held m w r → pathChosen m (recordAt m (heldPlace m w r)) (heldNumber w) ≡ chosen w r
+pub held-chosen : (m : Model) (w : PathKind) (r : ℕ) → Held m w r → pathChosen m (recordAt m (heldPlace m w r)) (heldNumber w) ≡ PathOf w r
 unfolding pathChosen heldPlace heldNumber holders
-held-chosen m partner r h = rw (property-at m r (h .holder-there), h .path-there)
-held-chosen m key r h = rw (key-at m r (h .holder-there), h .path-there)
-held-chosen m dependent r h = rw (constraint-at m r (h .holder-there), h .path-there)
-held-chosen m principal r h = rw (constraint-at m r (h .holder-there), h .path-there)
-held-chosen m binding r h = rw (binding-at m r (h .holder-there), h .path-there)
-held-chosen m target r h = rw (binding-at m r (h .holder-there), h .path-there)
+held-chosen m Partner r h = rw (property-at m r (h .holder-there), h .path-there)
+held-chosen m Key r h = rw (key-at m r (h .holder-there), h .path-there)
+held-chosen m Dependent r h = rw (constraint-at m r (h .holder-there), h .path-there)
+held-chosen m Principal r h = rw (constraint-at m r (h .holder-there), h .path-there)
+held-chosen m Binding r h = rw (binding-at m r (h .holder-there), h .path-there)
+held-chosen m Target r h = rw (binding-at m r (h .holder-there), h .path-there)
 
 -- Laws of lists of steps.
 module _ (bad : Step → Bool) (good : ℕ → Bool) (fine : (p : ℕ) → bad (property p) ≡ false → good p ≡ true) where
@@ -103,6 +105,7 @@ module _ (bad : Step → Bool) (good : ℕ → Bool) (fine : (p : ℕ) → bad (
   none-bad [] e = refl
   none-bad (property p ∷ l) e = let c = or-no (bad (property p)) (some bad l) e in rw (fine p (c .0)) (none-bad l (c .1))
   none-bad (type c ∷ l) e = none-bad l (or-no (bad (type c)) (some bad l) e .1)
+  none-bad (nothing ∷ l) e = none-bad l (or-no (bad nothing) (some bad l) e .1)
 
 all-more : (good better : ℕ → Bool) → ((p : ℕ) → good p ≡ true → better p ≡ true) → (l : List ℕ) → all good l ≡ true → all better l ≡ true
 unfolding all
@@ -120,10 +123,12 @@ unfolding all butLast properties
 but-names good [] e = refl
 but-names good (property p ∷ []) e = refl
 but-names good (type c ∷ []) e = refl
+but-names good (nothing ∷ []) e = refl
 but-names good (property p ∷ (s ∷ l)) e =
     let c = and-cases (good p) (all good (properties (butLast (s ∷ l)))) e in
     but-cons good p (properties (s ∷ l)) (c .0) (but-names good (s ∷ l) (c .1))
 but-names good (type c ∷ (s ∷ l)) e = but-names good (s ∷ l) e
+but-names good (nothing ∷ (s ∷ l)) e = but-names good (s ∷ l) e
 
 -- The names of the steps but the last, and the last.
 with-last : (bad : Step → Bool) (good : ℕ → Bool) → ((p : ℕ) → bad (property p) ≡ false → good p ≡ true) →
@@ -132,15 +137,19 @@ unfolding all butLast properties lastOr
 with-last bad good fine d [] e f = refl
 with-last bad good fine d (property p ∷ []) e f = rw (fine p f)
 with-last bad good fine d (type c ∷ []) e f = refl
+with-last bad good fine d (nothing ∷ []) e f = refl
 with-last bad good fine d (property p ∷ (s ∷ l)) e f =
     let c = and-cases (good p) (all good (properties (butLast (s ∷ l)))) e in
     rw (c .0) (with-last bad good fine (property p) (s ∷ l) (c .1) f)
 with-last bad good fine d (type c ∷ (s ∷ l)) e f = with-last bad good fine (type c) (s ∷ l) e f
+with-last bad good fine d (nothing ∷ (s ∷ l)) e f = with-last bad good fine nothing (s ∷ l) e f
 
 no-casts : (m : Model) (t : ℕ) (gs : List Segment) → hasCast (stepsOf m t gs) ≡ false → noCast gs ≡ true
 unfolding along stepAt movesTo some noCast
 no-casts m t [] e = refl
-no-casts m t (name nm ∷ gs) e = no-casts m (movesTo m t (name nm)) gs e
+no-casts m t (name nm ∷ gs) e =
+    let to = movesTo m t (name nm) in
+    no-casts m to gs (or-no (noProperty (stepAt m t (name nm))) (hasCast (stepsOf m to gs)) e .1)
 no-casts m t (cast c ∷ gs) e = sym e
 
 -- No navigation property without containment.
@@ -149,15 +158,15 @@ stays m p = not (nonContainment m p)
 
 module _ (m : Model) (k : ModelKept m) where
   -- Rule 4: the path lies within the segments.
-  pub within : (w : Kind) (r : ℕ) → Held m w r → pathOf m w r .first + pathOf m w r .count ≤ m .segments
+  pub within : (w : PathKind) (r : ℕ) → Held m w r → pathOf m w r .first + pathOf m w r .count ≤ m .segments
   within w r h = numbers-fit m (k .kept4) .path-there w r (h .holder-there)
 
   -- Rule 14: every segment resolves, so the path does.
-  none-unresolved : (w : Kind) (g : ℕ) → g < m .segments → unresolvedOf m w g ≡ false
+  none-unresolved : (w : PathKind) (g : ℕ) → g < m .segments → unresolvedOf m w g ≡ false
   unfolding unresolved
   none-unresolved w g l = no-kind (λ x. unresolvedOf m x g) (sym (rule14-is m g) ∙ of-segment m rule14 (k .kept14) g l) w
 
-  pub resolved : (w : Kind) (r : ℕ) → Held m w r → resolves m (startOf m w r) (segmentsOf m (pathOf m w r)) ≡ true
+  pub resolved : (w : PathKind) (r : ℕ) → Held m w r → resolves m (startOf m w r) (segmentsOf m (pathOf m w r)) ≡ true
   unfolding unresolvedOf unresolvedIn
   resolved w r h =
       let run = pathOf m w r in
@@ -212,27 +221,27 @@ module _ (m : Model) (k : ModelKept m) where
   unfolding brokenInner
   constraint-form l e = from-steps (λ s. isOther (λ p. constraintStep m p) s) constraint-stays l e
 
-  pub inner-stays : (w : Kind) (r : ℕ) → Held m w r → all (stays m) (butLast (properties (pathSteps m w r))) ≡ true
+  pub inner-stays : (w : PathKind) (r : ℕ) → Held m w r → all (stays m) (butLast (properties (pathSteps m w r))) ≡ true
   unfolding holders pathOf property17 key15 constraint16 binding19
-  inner-stays partner p h =
+  inner-stays Partner p h =
       let e = off (property17 m p) (property17b m p) (λ q. rw (h .path-there) (simp (q, or-true))) (of-property m rule17 (k .kept17) p (h .holder-there)) in
-      from-steps (λ s. isProperty (λ q. m .navigation q) s) plain-stays (pathSteps m partner p) e
-  inner-stays key c h =
+      from-steps (λ s. isProperty (λ q. m .navigation q) s) plain-stays (pathSteps m Partner p) e
+  inner-stays Key c h =
       let e = off (key15 m c) (key15d m c) (λ q. simp (q, or-true)) (of-key m rule15 (k .kept15) c (h .holder-there)) in
-      from-steps (λ s. isOther (λ p. keyStep m p) s) key-stays (pathSteps m key c) e
-  inner-stays dependent c h =
-      constraint-form (pathSteps m dependent c)
-      (off (constraint16 m c) (brokenInner m (pathSteps m dependent c)) (λ q. simp (q, or-true)) (of-constraint m rule16 (k .kept16) c (h .holder-there)))
-  inner-stays principal c h =
-      constraint-form (pathSteps m principal c)
-      (off (constraint16 m c) (brokenInner m (pathSteps m principal c)) (λ q. simp (q, or-true)) (of-constraint m rule16 (k .kept16) c (h .holder-there)))
-  inner-stays binding b h =
-      names-stay (butLast (properties (pathSteps m binding b)))
+      from-steps (λ s. isOther (λ p. keyStep m p) s) key-stays (pathSteps m Key c) e
+  inner-stays Dependent c h =
+      constraint-form (pathSteps m Dependent c)
+      (off (constraint16 m c) (brokenInner m (pathSteps m Dependent c)) (λ q. simp (q, or-true)) (of-constraint m rule16 (k .kept16) c (h .holder-there)))
+  inner-stays Principal c h =
+      constraint-form (pathSteps m Principal c)
+      (off (constraint16 m c) (brokenInner m (pathSteps m Principal c)) (λ q. simp (q, or-true)) (of-constraint m rule16 (k .kept16) c (h .holder-there)))
+  inner-stays Binding b h =
+      names-stay (butLast (properties (pathSteps m Binding b)))
       (off (binding19 m b) (binding19c m b) (λ q. simp (q, or-true)) (of-binding m rule19 (k .kept19) b (h .holder-there)))
-  inner-stays target b h =
+  inner-stays Target b h =
       let e = off (binding19 m b) (binding19g m b) (λ q. simp (q, or-true)) (of-binding m rule19 (k .kept19) b (h .holder-there)) in
-      let inner = some (λ s. isOther (λ p. targetStep m p) s) (butLast (pathSteps m target b)) in
-      from-steps (λ s. isOther (λ p. targetStep m p) s) target-stays (pathSteps m target b) (or-no inner _ e .0)
+      let inner = some (λ s. isOther (λ p. targetStep m p) s) (butLast (pathSteps m Target b)) in
+      from-steps (λ s. isOther (λ p. targetStep m p) s) target-stays (pathSteps m Target b) (or-no inner _ e .0)
 
   module _ (f : ModelFacts m) where
     stays-integral : (b : Bool) (p : ℕ) → p < m .properties → (b ≡ true → structured m (m .typeRef p) ≡ true) → inner (stays m) b p ≡ true →
@@ -246,7 +255,7 @@ module _ (m : Model) (k : ModelKept m) where
         go false n = rw n (or-left (complex m (m .typeRef p)) false (f .structural p l n (s refl)))
 
     -- The path of a record, as a way with integral inner names.
-    pub path-way : (w : Kind) (r : ℕ) → Held m w r → Way m (inner (integral m)) (startOf m w r) (segmentsOf m (pathOf m w r)) (pathEnd m w r)
+    pub path-way : (w : PathKind) (r : ℕ) → Held m w r → Way m (inner (integral m)) (startOf m w r) (segmentsOf m (pathOf m w r)) (pathEnd m w r)
     path-way w r h =
         let t = startOf m w r in
         let gs = segmentsOf m (pathOf m w r) in
@@ -264,21 +273,21 @@ module _ (m : Model) (k : ModelKept m) where
   unfolding keyEnd
   end-required p e = and-cases (required p) (keyType m (m .typeRef p)) (not-false (keyEnd m p) e) .0
 
-  pub key-way : (r : ℕ) → Held m key r → Way m (λ b p. required p) (startOf m key r) (segmentsOf m (pathOf m key r)) (pathEnd m key r)
+  pub key-way : (r : ℕ) → Held m Key r → Way m (λ b p. required p) (startOf m Key r) (segmentsOf m (pathOf m Key r)) (pathEnd m Key r)
   unfolding key15 holders
   key-way r h =
       let kept = of-key m rule15 (k .kept15) r (h .holder-there) in
-      let steps = pathSteps m key r in
+      let steps = pathSteps m Key r in
       let d = off (key15 m r) (key15d m r) (λ q. simp (q, or-true)) kept in
       let e = off (key15 m r) (key15e m r) (λ q. simp (q, or-true)) kept in
       let a = none-bad (λ s. isOther (λ p. keyStep m p) s) required step-required (butLast steps) d in
-      let b = with-last (λ s. isOther (λ p. keyEnd m p) s) required end-required (type 0) steps a e in
-      way m (λ x p. required p) (startOf m key r) (segmentsOf m (pathOf m key r)) (resolved key r h) (on-all required (properties steps) b)
+      let b = with-last (λ s. isOther (λ p. keyEnd m p) s) required end-required nothing steps a e in
+      way m (λ x p. required p) (startOf m Key r) (segmentsOf m (pathOf m Key r)) (resolved Key r h) (on-all required (properties steps) b)
 
-  pub key-plain : (r : ℕ) → Held m key r → noCast (segmentsOf m (pathOf m key r)) ≡ true
+  pub key-plain : (r : ℕ) → Held m Key r → noCast (segmentsOf m (pathOf m Key r)) ≡ true
   unfolding key15 key15c holders
   key-plain r h =
-      no-casts m (startOf m key r) (segmentsOf m (pathOf m key r))
+      no-casts m (startOf m Key r) (segmentsOf m (pathOf m Key r))
       (off (key15 m r) (key15c m r) (λ q. simp (q, or-true)) (of-key m rule15 (k .kept15) r (h .holder-there)))
 
   pub key-single : (b : Bool) (p : ℕ) → required p ≡ true → (m .collection p ≡ false) × (m .nullable p ≡ false)

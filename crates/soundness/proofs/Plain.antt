@@ -16,7 +16,7 @@ use Rattle.csdl.specs.Path.Segment.{name, cast}
 use Rattle.csdl.specs.Instance.{Instance, instanceOf, instanceIn}
 use Rattle.csdl.specs.Conforms.{isNull}
 use Rattle.csdl.specs.Walk.{Item, slotNamed, itemAt, contents, contentsBy, opening, after, nextStage, walked, start, bytesOfNumber, bytesOfItem}
-use Rattle.csdl.specs.Walk.Item.{null, held}
+use Rattle.csdl.specs.Walk.Item.{null, value}
 use Rattle.csdl.specs.Walk.Origin.{at-slot, at-cast}
 use Rattle.csdl.specs.Accepted.{IsNull}
 use Rattle.csdl.proofs.Logic.{true-false}
@@ -27,14 +27,14 @@ use Rattle.soundness.proofs.Lists.{all-map, all-flat, all-tab}
 -- An item that is not null has other numbers than null has, and a handle of three bytes.
 unfoldable pub Plain : Item → Type 0
 Plain (null o) = Unit {0}
-Plain (held r h) = ((eqb r 255 && eqb h 0) ≡ false) × (h < 16777216)
+Plain (value r h) = ((eqb r 255 && eqb h 0) ≡ false) × (h < 16777216)
 
 module _ (m : Model) (i : Instance) (small : (k : ℕ) → i .itemHandle k < 16777216) where
   item-plain : (s k : ℕ) → Plain (itemAt i s k)
   unfolding Plain itemAt isNull
   item-plain s k = go (eqb (i .itemRef k) 255 && eqb (i .itemHandle k) 0) refl
     where
-      go : (b : Bool) → (eqb (i .itemRef k) 255 && eqb (i .itemHandle k) 0) ≡ b → Plain (cond b (null (at-slot s)) (held (i .itemRef k) (i .itemHandle k)))
+      go : (b : Bool) → (eqb (i .itemRef k) 255 && eqb (i .itemHandle k) 0) ≡ b → Plain (cond b (null (at-slot s)) (value (i .itemRef k) (i .itemHandle k)))
       go true e = tt
       go false e = (e, small k)
 
@@ -49,16 +49,16 @@ module _ (m : Model) (i : Instance) (small : (k : ℕ) → i .itemHandle k < 167
   after-plain : (g : Segment) (x : Item) → Plain x → All Plain (after m i g x)
   unfolding Plain after opening
   after-plain (name nm) (null o) h = both {x = null o} tt none
-  after-plain (name nm) (held r v) h = go (cond (structured m r) (slotNamed m i nm v) 0)
+  after-plain (name nm) (value r v) h = go (cond (structured m r) (slotNamed m i nm v) 0)
     where
       go : (z : ℕ) → All Plain (contentsBy i z)
       go zero = none
       go (suc s) = contents-plain s
   after-plain (cast c) (null o) h = both {x = null o} tt none
-  after-plain (cast c) (held r v) h = go (structured m r) (ancestorOrSelf m c r)
+  after-plain (cast c) (value r v) h = go (structured m r) (ancestorOrSelf m c r)
     where
-      go : (a b : Bool) → All Plain (cond a (cond b (held r v) (null (at-cast c v)) ∷ []) [])
-      go true true = both {x = held r v} h none
+      go : (a b : Bool) → All Plain (cond a (cond b (value r v) (null (at-cast c v)) ∷ []) [])
+      go true true = both {x = value r v} h none
       go true false = both {x = null (at-cast c v)} tt none
       go false b = none
 
@@ -75,7 +75,7 @@ results-plain m image gs v l =
     let r = instanceIn image .nodeType v in
     let t : r < 64 = field-lt _ (32 * v) 6 in
     let e : (eqb r 255 && eqb v 0) ≡ false = rw (ne-eqb r 255 (λ q. omega arith)) in
-    walked-plain m (instanceIn image) (λ k. field-lt _ (32 * k + 8) 24) gs (start (instanceIn image) v) (both {x = held r v} (e, l) none)
+    walked-plain m (instanceIn image) (λ k. field-lt _ (32 * k + 8) 24) gs (start (instanceIn image) v) (both {x = value r v} (e, l) none)
 
 -- The four bytes of null are those of no other item; the handle is in the last three, high byte first.
 handle-zero : (h : ℕ) → h < 16777216 → h / 65536 % 256 ≡ 0 → h / 256 % 256 ≡ 0 → h / 1 % 256 ≡ 0 → h ≡ 0
@@ -91,7 +91,7 @@ handle-zero h l b c d =
 pub null-bytes : (x : Item) → Plain x → bytesOfItem x ≡ 255 ∷ 0 ∷ 0 ∷ 0 ∷ [] → IsNull x
 unfolding Plain bytesOfItem bytesOfNumber
 null-bytes (null o) p e = tt
-null-bytes (held r h) p e =
+null-bytes (value r h) p e =
     let a : r ≡ 255 = cc in
     let b : h / 65536 % 256 ≡ 0 = cc in
     let c : h / 256 % 256 ≡ 0 = cc in

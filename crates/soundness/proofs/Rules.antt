@@ -1,19 +1,19 @@
 -- What the rules give, where they are unbroken at every place.
-use Prim.Native.Nat.{ℕ, zero, suc, _+_, _-_, _≤_, _<_, zero-le}
+use Prim.Native.Nat.{ℕ, zero, suc, _+_, _≤_, _<_, zero-le}
 use mathlib.Core.Path.{_≡_, refl, sym, subst}
 use mathlib.Core.Bool.{Bool, true, false, not, _&&_, _||_, or-true}
 use mathlib.Core.Logic.{⊎-elim}
 use native.Mathlib.Omega.{arith}
 use lib.Dec.{eqb, ltb, leb}
-use borrow.Author.Tests.{eqb-true, eqb-false, eq-eqb, ne-eqb, ltb-true, leb-true, le-leb, not-false}
-use Rattle.csdl.specs.Search.{mark}
+use borrow.Author.Tests.{eqb-true, eqb-false, eq-eqb, ltb-true, leb-true, le-leb, not-false}
+use Rattle.csdl.specs.Search.{oneIf}
 use Rattle.csdl.specs.Model.{Model, inRun}
 use Rattle.csdl.specs.Find.{ofKind, entity, complex, structured, ancestor, isNameOf, complexStep, containStep, integral, ancestorOrSelf}
 use Rattle.csdl.specs.Form.{run4cd}
 use Rattle.csdl.specs.Types.{type8, type8a}
 use Rattle.csdl.specs.Properties.{sameName, redeclares, property10, property10c, property11, property11a, property11b}
 use Rattle.csdl.specs.Instance.{Instance}
-use Rattle.csdl.specs.Conforms.{node21a, slot21b, rule21, countUnlike, nodesWith, node23, slotsOf, slot24, slot24a, slot24c, slotOfItem, carriesNode, item25of, item25, node26, node26a, node26b, rule23, rule24, rule25, rule26}
+use Rattle.csdl.specs.Conforms.{node21a, slot21b, rule21, countUnlike, nodesWith, node23, slotsOf, slot24, slot24a, slot24c, itemProperty, carriesNode, item25of, item25, node26, node26a, node26b, rule23, rule24, rule25, rule26}
 use Rattle.csdl.specs.Relations.{Holds, Within}
 use Rattle.csdl.specs.Relations.Within.{directly, deeper}
 use Rattle.csdl.specs.Types.{rule8}
@@ -132,12 +132,12 @@ module _ (m : Model) (i : Instance) (f : ModelFacts m) (k : InstanceKept m i) (s
   state-two : (s : ℕ) → s < i .slots → i .state s ≤ 2
   state-two s l = let n = slot-fits s l .not-three in omega (arith, states s, n)
 
-  named-kept : (v p : ℕ) → v < i .nodes → p < m .properties → slotsOf i v p ≡ mark (isNameOf m (i .nodeType v) p)
+  named-kept : (v p : ℕ) → v < i .nodes → p < m .properties → slotsOf i v p ≡ oneIf (isNameOf m (i .nodeType v) p)
   unfolding node23
   named-kept v p l lp =
-      let test : ℕ → Bool = λ q. not (eqb (slotsOf i v q) (mark (isNameOf m (i .nodeType v) q))) in
+      let test : ℕ → Bool = λ q. not (eqb (slotsOf i v q) (oneIf (isNameOf m (i .nodeType v) q))) in
       let a = any-none test 0 (m .properties) (of-node m i rule23 (k .kept23) v l) p zero-le (omega arith) in
-      eqb-true (slotsOf i v p) (mark (isNameOf m (i .nodeType v) p)) (not-false (eqb (slotsOf i v p) (mark (isNameOf m (i .nodeType v) p))) a)
+      eqb-true (slotsOf i v p) (oneIf (isNameOf m (i .nodeType v) p)) (not-false (eqb (slotsOf i v p) (oneIf (isNameOf m (i .nodeType v) p))) a)
 
   null-kept : (s : ℕ) → s < i .slots → i .state s ≡ 0 → m .nullable (i .slotProperty s) ≡ true
   unfolding slot24
@@ -159,9 +159,8 @@ module _ (m : Model) (i : Instance) (f : ModelFacts m) (k : InstanceKept m i) (s
   unfolding item25
   item-kept s n l e =
       let b = item-within s n l e in
-      let o : slotOfItem i n - 1 ≡ s = omega (arith, slot-of m i (k .kept21) s n l b e) in
-      let h : item25of m i (i .slotProperty (slotOfItem i n - 1)) n ≡ false = of-item m i rule25 (k .kept25) n b in
-      rw o at h
+      let h : item25of m i (itemProperty i n) n ≡ false = of-item m i rule25 (k .kept25) n b in
+      rw (slot-of m i (k .kept21) s n l b e) at h
 
   -- What is held by an integral item is a node.
   held-small : (v w : ℕ) → Holds m i v w → w < i .nodes

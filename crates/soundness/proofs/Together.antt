@@ -1,4 +1,4 @@
--- Demand 3 of a walk along a way, put together from its parts.
+-- Demand 3 of a walk along a way, put together.
 use Prim.Native.Nat.{ℕ, suc, _<_}
 use mathlib.Core.Path.{_≡_, refl, subst}
 use mathlib.Core.List.{List, _∷_, _++_, List·Memᴰ}
@@ -10,7 +10,7 @@ use Rattle.csdl.specs.Path.{Segment}
 use Rattle.csdl.specs.Path.Segment.{name, cast}
 use Rattle.csdl.specs.Instance.{Instance}
 use Rattle.csdl.specs.Walk.{Item, slotNamed, opening, walked, opened, start}
-use Rattle.csdl.specs.Walk.Item.{null, held}
+use Rattle.csdl.specs.Walk.Item.{null, value}
 use Rattle.csdl.specs.Walk.Origin.{at-slot, at-cast}
 use Rattle.soundness.specs.Lists.{All}
 use Rattle.soundness.specs.Lists.All.{none, both}
@@ -30,18 +30,18 @@ module _ (m : Model) (i : Instance) (k : ModelFacts m) (j : InstanceFacts m i) w
   fits-lies : (u : ℕ) (x : Item) → Fits m i u x → LiesAt m i u x
   unfolding Fits LiesAt
   fits-lies u (null o) f = tt
-  fits-lies u (held r v) f = (at-is m k u r (f .0), f .1)
+  fits-lies u (value r v) f = (at-is m k u r (f .0), f .1)
 
   -- A node among the items before a segment of the way is a node of its type, since those items fit.
-  met-node : {ok : Bool → ℕ → Bool} {t u : ℕ} {gs : List Segment} → Way m ok t gs u → (v : ℕ) → Fits m i t (held (i .nodeType v) v) →
-      (before later : List Segment) → gs ≡ before ++ later → (r w : ℕ) → List·Memᴰ (held r w) (walked m i before (start i v)) →
+  met-node : {ok : Bool → ℕ → Bool} {t u : ℕ} {gs : List Segment} → Way m ok t gs u → (v : ℕ) → Fits m i t (value (i .nodeType v) v) →
+      (before later : List Segment) → gs ≡ before ++ later → (r w : ℕ) → List·Memᴰ (value r w) (walked m i before (start i v)) →
       structured m r ≡ true → NodeOf i r w
   unfolding Fits
   met-node {ok} {t} {u} way v f before later e r w d s =
       let z = way-before before later (subst (λ (l : List Segment). Way m ok t l u) e way) in
       all-member (typed m i k j (z .1) (start i v) (both f none) .1) d .1 s
 
-  slot-named : (nm : List ℕ) (r w s : ℕ) → opening m i (name nm) (held r w) ≡ suc s → (structured m r ≡ true) × (slotNamed m i nm w ≡ suc s)
+  slot-named : (nm : List ℕ) (r w s : ℕ) → opening m i (name nm) (value r w) ≡ suc s → (structured m r ≡ true) × (slotNamed m i nm w ≡ suc s)
   unfolding opening
   slot-named nm r w s = go (structured m r)
     where
@@ -49,7 +49,7 @@ module _ (m : Model) (i : Instance) (k : ModelFacts m) (j : InstanceFacts m i) w
       go true e = (refl, e)
       go false e = absurd (omega arith)
 
-  fits-origin : {ok : Bool → ℕ → Bool} {t u : ℕ} {gs : List Segment} → Way m ok t gs u → (v : ℕ) → Fits m i t (held (i .nodeType v) v) →
+  fits-origin : {ok : Bool → ℕ → Bool} {t u : ℕ} {gs : List Segment} → Way m ok t gs u → (v : ℕ) → Fits m i t (value (i .nodeType v) v) →
       (x : Item) → Fits m i u x → CameIn m i gs (start i v) (opened m i gs (start i v)) x → NullHasOrigin m i gs v x
   unfolding Fits Right CameIn InWalk NullHasOrigin HasOrigin
   fits-origin way v s (null (at-slot z)) f h =
@@ -78,15 +78,15 @@ module _ (m : Model) (i : Instance) (k : ModelFacts m) (j : InstanceFacts m i) w
         in-table = n .0;
         not-at = rw (n .1) (h .not-at);
       }
-  fits-origin way v s (held r w) f h = tt
+  fits-origin way v s (value r w) f h = tt
 
-  start-fits : (t v : ℕ) → v < i .nodes → ancestorOrSelf m t (i .nodeType v) ≡ true → Fits m i t (held (i .nodeType v) v)
+  start-fits : (t v : ℕ) → v < i .nodes → ancestorOrSelf m t (i .nodeType v) ≡ true → Fits m i t (value (i .nodeType v) v)
   unfolding Fits
   start-fits t v l a = (at-sound m t (i .nodeType v) a, λ g. (l, refl))
 
   pub demand : {t u : ℕ} {gs : List Segment} → Way m (inner (integral m)) t gs u → (v : ℕ) → v < i .nodes → ancestorOrSelf m t (i .nodeType v) ≡ true → Demand m i gs u v
   demand {t} {u} {gs} w v l a =
-      let x = held (i .nodeType v) v in
+      let x = value (i .nodeType v) v in
       let f = start-fits t v l a in
       let h = typed m i k j w (start i v) (both f none) in
       let o = once m i k j w (i .nodeType v) v f in

@@ -9,15 +9,15 @@ use lib.Dec.{eqb, ltb, eqb·suc-zero}
 use borrow.Author.Tests.{eqb-true, eq-eqb, ltb-true, not-false}
 use Rattle.packed.specs.Bytes.{same}
 use Rattle.packed.proofs.Laws.{same-sound, same-refl}
-use Rattle.csdl.specs.Search.{mark, tab, all}
+use Rattle.csdl.specs.Search.{oneIf, tab, all}
 use Rattle.csdl.specs.Model.{Model, text, inRun}
 use Rattle.csdl.specs.Find.{ancestorOrSelf, structured, find, isNameOf}
 use Rattle.csdl.specs.Path.{Segment}
 use Rattle.csdl.specs.Path.Segment.{name, cast}
 use Rattle.csdl.specs.Instance.{Instance}
 use Rattle.csdl.specs.Conforms.{slotsOf, isNull, carriesNode, item25of}
-use Rattle.csdl.specs.Walk.{Item, Origin, slotNamed, itemAt, contents, opening, after, passes, nextStage, walked, runs}
-use Rattle.csdl.specs.Walk.Item.{null, held}
+use Rattle.csdl.specs.Walk.{Item, Origin, slotNamed, itemAt, contents, opening, after, passes, nextStage, walked, reachesEnd}
+use Rattle.csdl.specs.Walk.Item.{null, value}
 use Rattle.csdl.specs.Walk.Origin.{at-slot, at-cast}
 use Rattle.csdl.specs.Accepted.{NullIn}
 use Rattle.csdl.proofs.Logic.{and-cases, and-both, true-false, in-run, run-in, first-found, first-of, term-le, some-found}
@@ -39,16 +39,16 @@ Right m i (at-cast c v) = (v < i .nodes) × (ancestorOrSelf m c (i .nodeType v) 
 -- An item fits type reference u.
 unfoldable pub Fits : Model → Instance → ℕ → Item → Type 0
 Fits m i u (null o) = Right m i o
-Fits m i u (held r v) = At m u r × (structured m r ≡ true → NodeOf i r v)
+Fits m i u (value r v) = At m u r × (structured m r ≡ true → NodeOf i r v)
 
 pub fits-up : (m : Model) (i : Instance) (u t : ℕ) → At m u t → (x : Item) → Fits m i t x → Fits m i u x
 unfolding Fits
 fits-up m i u t a (null o) f = f
-fits-up m i u t a (held r v) f = (at-trans m a (f .0), f .1)
+fits-up m i u t a (value r v) f = (at-trans m a (f .0), f .1)
 
-mark-one : (b : Bool) → 1 ≤ mark b → b ≡ true
-mark-one true h = refl
-mark-one false h = absurd (omega arith)
+one-if-one : (b : Bool) → 1 ≤ oneIf b → b ≡ true
+one-if-one true h = refl
+one-if-one false h = absurd (omega arith)
 
 module _ (m : Model) (i : Instance) (k : ModelFacts m) (j : InstanceFacts m i) where
   -- A slot's property is what its name means at the node's type.
@@ -59,10 +59,10 @@ module _ (m : Model) (i : Instance) (k : ModelFacts m) (j : InstanceFacts m i) w
       let p = i .slotProperty s in
       let r = run-in (i .nodeSlots v) s e in
       let n = j .slots-named v p l (j .property-small s (j .slots-fit v s l e)) in
-      let o : mark (eqb (i .slotProperty s) p) ≡ 1 = rw (eq-eqb p p refl) in
-      let a : mark (eqb (i .slotProperty s) p) ≤ slotsOf i v p = term-le (λ z. mark (eqb (i .slotProperty z) p)) s (i .nodeSlots v .first)
+      let o : oneIf (eqb (i .slotProperty s) p) ≡ 1 = rw (eq-eqb p p refl) in
+      let a : oneIf (eqb (i .slotProperty s) p) ≤ slotsOf i v p = term-le (λ z. oneIf (eqb (i .slotProperty z) p)) s (i .nodeSlots v .first)
       (i .nodeSlots v .count) (r .0) (r .1) in
-      eqb-true (find m (text m (m .propertyName p)) (i .nodeType v)) (suc p) (mark-one (isNameOf m (i .nodeType v) p) (omega arith))
+      eqb-true (find m (text m (m .propertyName p)) (i .nodeType v)) (suc p) (one-if-one (isNameOf m (i .nodeType v) p) (omega arith))
 
   -- The slot of a name that the node's type has.
   slot-there : (nm : List ℕ) (v q : ℕ) → v < i .nodes → find m nm (i .nodeType v) ≡ suc q →
@@ -125,7 +125,7 @@ module _ (m : Model) (i : Instance) (k : ModelFacts m) (j : InstanceFacts m i) w
       go : (b : Bool) → isNull i n ≡ b →
           cond b (not (m .collection p && m .nullable p))
           (cond (structured m (m .typeRef p)) (not (carriesNode m i (m .typeRef p) n)) (not (eqb r (m .typeRef p)))) ≡ false →
-          Fits m i (m .typeRef p) (cond b (null (at-slot s)) (held r w))
+          Fits m i (m .typeRef p) (cond b (null (at-slot s)) (value r w))
       go true f h = (l, and-cases (m .collection p) (m .nullable p) (not-false (m .collection p && m .nullable p) h) .1, inr (n, e, f))
       go false f h = sort (structured m (m .typeRef p)) refl h
 
@@ -147,7 +147,7 @@ module _ (m : Model) (i : Instance) (k : ModelFacts m) (j : InstanceFacts m i) w
       (passes m i (name nm) x ≡ true) × All (Fits m i (m .typeRef p)) (after m i (name nm) x)
   unfolding Fits passes after opening
   name-typed nm t p st e (null o) f = (refl, both f none)
-  name-typed nm t p st e (held r v) f =
+  name-typed nm t p st e (value r v) f =
       let sr = structured-at m k t r (f .0) st in
       let n = f .1 sr in
       let o = opens nm t p v (n .0) (rw (n .1) (f .0)) e in
@@ -161,10 +161,10 @@ module _ (m : Model) (i : Instance) (k : ModelFacts m) (j : InstanceFacts m i) w
       (passes m i (cast c) x ≡ true) × All (Fits m i c) (after m i (cast c) x)
   unfolding Fits Right passes after
   cast-typed c t sc a (null o) f = (refl, both f none)
-  cast-typed c t sc a (held r v) f =
+  cast-typed c t sc a (value r v) f =
       let sr = structured-at m k t r (f .0) (structured-up m k t c (at-sound m t c a) sc) in rw sr (refl, both (go sr (ancestorOrSelf m c r) refl) none)
     where
-      go : structured m r ≡ true → (b : Bool) → ancestorOrSelf m c r ≡ b → Fits m i c (cond b (held r v) (null (at-cast c v)))
+      go : structured m r ≡ true → (b : Bool) → ancestorOrSelf m c r ≡ b → Fits m i c (cond b (value r v) (null (at-cast c v)))
       go sr true e = (at-sound m c r e, f .1)
       go sr false e = let n = f .1 sr in (n .0, rw (n .1) e)
 
@@ -174,14 +174,14 @@ module _ (m : Model) (i : Instance) (k : ModelFacts m) (j : InstanceFacts m i) w
   stage-typed g t u one xs f = (all-true (λ x. passes m i g x) (all-map (λ x h. one x h .0) f), all-flat (λ x. after m i g x) (all-map (λ x h. one x h .1) f))
 
   pub typed : {ok : Bool → ℕ → Bool} {t u : ℕ} {gs : List Segment} → Way m ok t gs u → (xs : List Item) → All (Fits m i t) xs →
-      (runs m i gs xs ≡ true) × All (Fits m i u) (walked m i gs xs)
-  unfolding runs walked
+      (reachesEnd m i gs xs ≡ true) × All (Fits m i u) (walked m i gs xs)
+  unfolding reachesEnd walked
   typed end xs f = (refl, f)
   typed {ok} {t} (by-name {p} {nm} {gs} st e o w) xs f =
       let a = stage-typed (name nm) t (m .typeRef p) (name-typed nm t p st e) xs f in
       let h = typed w (nextStage m i (name nm) xs) (a .1) in
-      (and-both (all (λ x. passes m i (name nm) x) xs) (runs m i gs (nextStage m i (name nm) xs)) (a .0) (h .0), h .1)
+      (and-both (all (λ x. passes m i (name nm) x) xs) (reachesEnd m i gs (nextStage m i (name nm) xs)) (a .0) (h .0), h .1)
   typed {ok} {t} (by-cast {c} {gs} sc e w) xs f =
       let a = stage-typed (cast c) t c (cast-typed c t sc e) xs f in
       let h = typed w (nextStage m i (cast c) xs) (a .1) in
-      (and-both (all (λ x. passes m i (cast c) x) xs) (runs m i gs (nextStage m i (cast c) xs)) (a .0) (h .0), h .1)
+      (and-both (all (λ x. passes m i (cast c) x) xs) (reachesEnd m i gs (nextStage m i (cast c) xs)) (a .0) (h .0), h .1)

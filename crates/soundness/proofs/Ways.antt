@@ -50,6 +50,16 @@ onNames ok (p ∷ (q ∷ l)) = ok true p && onNames ok (q ∷ l)
 suc-of : (x : ℕ) → not (eqb x 0) ≡ true → x ≡ suc (x - 1)
 suc-of x e = let h : x ≡ 0 → ⊥ = eqb-false x 0 (not-true (eqb x 0) e) in omega arith
 
+-- A path that resolves and begins with a name: the name means a property, and the rest resolves from that property's type.
+found : (m : Model) (t : ℕ) (nm : List ℕ) (gs : List Segment) → resolves m t (name nm ∷ gs) ≡ true →
+    (p : ℕ) × (structured m t ≡ true) × (find m nm t ≡ suc p) × (resolves m (m .typeRef p) gs ≡ true)
+unfolding alongAll resolvesAt movesTo
+found m t nm gs r =
+    let a = and-cases (structured m t && not (eqb (find m nm t) 0)) (resolves m (movesTo m t (name nm)) gs) r in
+    let b = and-cases (structured m t) (not (eqb (find m nm t) 0)) (a .0) in
+    let e = suc-of (find m nm t) (b .1) in
+    (find m nm t - 1, b .0, e, rw e at (a .1))
+
 -- What names a path has.
 abbrev pub names : Model → ℕ → List Segment → List ℕ
 names m t gs = properties (stepsOf m t gs)
@@ -58,20 +68,20 @@ data Names (m : Model) (t : ℕ) (gs : List Segment) : Type 0 where
   no-name : hasName gs ≡ false → names m t gs ≡ [] → Names m t gs
   a-name : (p : ℕ) (l : List ℕ) → hasName gs ≡ true → names m t gs ≡ p ∷ l → Names m t gs
 
-names-of : (m : Model) (t : ℕ) (gs : List Segment) → Names m t gs
-unfolding hasName along stepAt properties movesTo
-names-of m t [] = no-name refl refl
-names-of m t (name nm ∷ gs) = a-name (find m nm t - 1) (names m (m .typeRef (find m nm t - 1)) gs) refl refl
-names-of m t (cast c ∷ gs) = go (names-of m c gs)
+names-of : (m : Model) (t : ℕ) (gs : List Segment) → resolves m t gs ≡ true → Names m t gs
+unfolding hasName along alongAll resolvesAt stepAt properties movesTo
+names-of m t [] r = no-name refl refl
+names-of m t (name nm ∷ gs) r = let f = found m t nm gs r in a-name (f .0) (names m (m .typeRef (f .0)) gs) refl (rw (f .2))
+names-of m t (cast c ∷ gs) r = go (names-of m c gs (and-cases (structured m c && ancestorOrSelf m t c) (resolves m c gs) r .1))
   where
     go : Names m c gs → Names m t (cast c ∷ gs)
     go (no-name e f) = no-name e f
     go (a-name p l e f) = a-name p l e f
 
-on-cons : (ok : Bool → ℕ → Bool) (p : ℕ) (m : Model) (t : ℕ) (gs : List Segment) → onNames ok (p ∷ names m t gs) ≡ true →
+on-cons : (ok : Bool → ℕ → Bool) (p : ℕ) (m : Model) (t : ℕ) (gs : List Segment) → resolves m t gs ≡ true → onNames ok (p ∷ names m t gs) ≡ true →
     (ok (hasName gs) p ≡ true) × (onNames ok (names m t gs) ≡ true)
 unfolding onNames
-on-cons ok p m t gs e = go (names-of m t gs)
+on-cons ok p m t gs r e = go (names-of m t gs r)
   where
     go : Names m t gs → (ok (hasName gs) p ≡ true) × (onNames ok (names m t gs) ≡ true)
     go (no-name h f) = rw (h, f) (rw f at e, refl)
@@ -83,11 +93,10 @@ pub way : (m : Model) (ok : Bool → ℕ → Bool) (t : ℕ) (gs : List Segment)
 unfolding alongAll alongEnd along resolvesAt movesTo stepAt properties
 way m ok t [] r s = end
 way m ok t (name nm ∷ gs) r s =
-    let p = find m nm t - 1 in
-    let a = and-cases (structured m t && not (eqb (find m nm t) 0)) (resolves m (m .typeRef p) gs) r in
-    let b = and-cases (structured m t) (not (eqb (find m nm t) 0)) (a .0) in
-    let c = on-cons ok p m (m .typeRef p) gs s in
-    by-name (b .0) (suc-of (find m nm t) (b .1)) (c .0) (way m ok (m .typeRef p) gs (a .1) (c .1))
+    let f = found m t nm gs r in
+    let p = f .0 in
+    let c = on-cons ok p m (m .typeRef p) gs (f .3) (rw (f .2) at s) in
+    rw (f .2) (by-name (f .1) (f .2) (c .0) (way m ok (m .typeRef p) gs (f .3) (c .1)))
 way m ok t (cast c ∷ gs) r s =
     let a = and-cases (structured m c && ancestorOrSelf m t c) (resolves m c gs) r in
     let b = and-cases (structured m c) (ancestorOrSelf m t c) (a .0) in
@@ -126,7 +135,7 @@ module _ (m : Model) (k : ModelFacts m) where
   way-map f (by-name {t} {p = p} {nm} {gs} st e o w) = by-name st e (f (hasName gs) p (find-sound m nm t p e .0) (way-structured w) o) (way-map f w)
   way-map f (by-cast sc a w) = by-cast sc a (way-map f w)
 
--- The part of a way before some segment, whatever was asked of its names.
+-- A way as far as some segment, whatever was asked of its names.
 pub way-before : {m : Model} {ok : Bool → ℕ → Bool} {t u : ℕ} (a b : List Segment) → Way m ok t (a ++ b) u → (e : ℕ) × Way m (λ x p. true) t a e
 way-before {t = t} [] b w = (t, end)
 way-before (g ∷ a) b (by-name st e o w) = let z = way-before a b w in (z .0, by-name st e refl (z .1))

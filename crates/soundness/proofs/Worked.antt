@@ -11,14 +11,14 @@ use Rattle.csdl.specs.Model.{inRun}
 use Rattle.csdl.specs.Image.{modelIn}
 use Rattle.csdl.specs.Find.{ancestorOrSelf}
 use Rattle.csdl.specs.Path.{Segment, segmentsOf, pathOf, startOf, pathEnd}
-use Rattle.csdl.specs.Path.Kind.{partner, key, dependent, principal, binding, target}
+use Rattle.csdl.specs.declared.PathKind.the-variants.{Partner, Key, Dependent, Principal, Binding, Target}
 use Rattle.csdl.specs.Instance.{instanceIn}
 use Rattle.csdl.specs.Conforms.{isNull, instanceAnswer}
 use Rattle.csdl.specs.Verdict.{modelAnswer}
 use Rattle.csdl.specs.Verdict.Answer.{accepted}
 use Rattle.csdl.specs.Walk.{walkPath, walkResults, walkOpened, walkAnswer}
-use Rattle.csdl.specs.Walk.Chosen.{chosen}
-use Rattle.csdl.specs.Walk.Item.{null, held}
+use Rattle.csdl.specs.declared.Chosen.the-variants.{PathOf}
+use Rattle.csdl.specs.Walk.Item.{null, value}
 use Rattle.csdl.specs.Walk.Origin.{at-slot, at-cast}
 use Rattle.csdl.specs.Accepted.{NullIn}
 use Rattle.csdl.proofs.Everything.{everything}
@@ -68,16 +68,16 @@ instance-accepted = refl
 
 -- Every kind of path: the place and number of each.
 pub kinds :
-    (walkPath tours 7 0 ≡ chosen partner 1) × (walkPath tours 19 0 ≡ chosen key 1) × (walkPath tours 20 0 ≡ chosen dependent 0)
-    × (walkPath tours 20 1 ≡ chosen principal 0) × (walkPath tours 24 0 ≡ chosen binding 0) × (walkPath tours 26 1 ≡ chosen target 2)
+    (walkPath tours 7 0 ≡ PathOf Partner 1) × (walkPath tours 19 0 ≡ PathOf Key 1) × (walkPath tours 20 0 ≡ PathOf Dependent 0)
+    × (walkPath tours 20 1 ≡ PathOf Principal 0) × (walkPath tours 24 0 ≡ PathOf Binding 0) × (walkPath tours 26 1 ≡ PathOf Target 2)
 unfolding everything tours
 kinds = (refl, refl, refl, refl, refl, refl)
 
 -- The partner of Stops, from stop 1: its tour. The key of Stop, from node 2, a Long: one result. The dependent path, from the tour, and the
 -- principal path, from stop 2. The target Stops, from the tour: the two stops.
 pub walks :
-    (walkResults tours trip 7 0 1 ≡ held 0 0 ∷ []) × (walkResults tours trip 19 0 2 ≡ held 75 2 ∷ []) × (walkResults tours trip 20 0 0 ≡ held 75 1 ∷ [])
-    × (walkResults tours trip 20 1 2 ≡ held 75 2 ∷ []) × (walkResults tours trip 26 1 0 ≡ held 1 1 ∷ held 3 2 ∷ [])
+    (walkResults tours trip 7 0 1 ≡ value 0 0 ∷ []) × (walkResults tours trip 19 0 2 ≡ value 75 2 ∷ []) × (walkResults tours trip 20 0 0 ≡ value 75 1 ∷ [])
+    × (walkResults tours trip 20 1 2 ≡ value 75 2 ∷ []) × (walkResults tours trip 26 1 0 ≡ value 1 1 ∷ value 3 2 ∷ [])
 unfolding everything tours trip
 walks = (refl, refl, refl, refl, refl)
 
@@ -87,14 +87,14 @@ walks = (refl, refl, refl, refl, refl)
 -- results and 4 opened slots.
 pub nulls :
     (walkResults tours trip 24 0 0 ≡ null (at-cast 3 1) ∷ null (at-slot 11) ∷ []) × (walkOpened tours trip 24 0 0 ≡ 1 ∷ 11 ∷ [])
-    × (walkResults tours trip 25 0 0 ≡ null (at-slot 5) ∷ held 0 0 ∷ []) × (walkOpened tours trip 25 0 0 ≡ 1 ∷ 5 ∷ 10 ∷ 15 ∷ [])
+    × (walkResults tours trip 25 0 0 ≡ null (at-slot 5) ∷ value 0 0 ∷ []) × (walkOpened tours trip 25 0 0 ≡ 1 ∷ 5 ∷ 10 ∷ 15 ∷ [])
     × (walkResults tours trip 27 0 0 ≡ null (at-slot 8) ∷ null (at-slot 17) ∷ []) × (walkOpened tours trip 27 0 0 ≡ 1 ∷ 8 ∷ 13 ∷ 17 ∷ [])
     × (walkAnswer tours trip 25 0 0 (replicate 140 0) ≡ accepted (2 ∷ 4 ∷ []))
 unfolding everything tours trip
 nulls = (refl, refl, refl, refl, refl, refl, refl)
 
 -- The theorem's premises hold of it: the binding at place 25 is number 1, and node 0 is there, at the start type.
-path-held : walkPath tours 25 0 ≡ chosen binding 1
+path-held : walkPath tours 25 0 ≡ PathOf Binding 1
 unfolding everything tours
 path-held = refl
 
@@ -102,12 +102,12 @@ node-there : 0 < instanceIn trip .nodes
 unfolding everything trip
 node-there = ltb-true 0 (instanceIn trip .nodes) refl
 
-node-at : ancestorOrSelf (modelIn tours) (startOf (modelIn tours) binding 1) (instanceIn trip .nodeType 0) ≡ true
+node-at : ancestorOrSelf (modelIn tours) (startOf (modelIn tours) Binding 1) (instanceIn trip .nodeType 0) ≡ true
 unfolding everything tours trip
 node-at = refl
 
-pub demand-of-it : Demand (modelIn tours) (instanceIn trip) (segmentsOf (modelIn tours) (pathOf (modelIn tours) binding 1)) (pathEnd (modelIn tours) binding 1) 0
-demand-of-it = every-path tours trip instance-accepted binding 1 (each-is-held tours trip instance-accepted 25 0 binding 1 path-held) 0 node-there node-at
+pub demand-of-it : Demand (modelIn tours) (instanceIn trip) (segmentsOf (modelIn tours) (pathOf (modelIn tours) Binding 1)) (pathEnd (modelIn tours) Binding 1) 0
+demand-of-it = every-path tours trip instance-accepted Binding 1 (each-is-held tours trip instance-accepted 25 0 Binding 1 path-held) 0 node-there node-at
 
 -- Slot 10, the label of stop 2, is opened by that walk and its property is nullable; but it holds node 3, and no null. A null that a walk gave for
 -- it would not have come in rightly, whatever the path and the start.

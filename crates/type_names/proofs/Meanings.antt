@@ -1,25 +1,24 @@
 -- What each name means at a type, found in one pass over the properties. Assumes nothing.
 use Prim.Native.Nat.{ℕ, zero, suc, _+_, _-_, _≤_, _<_}
 use mathlib.Core.Path.{_≡_, refl, sym, ap, _∙_}
-use mathlib.Core.Bool.{Bool, true, false, cond, _&&_}
+use mathlib.Core.Bool.{Bool, true, false, _&&_}
 use mathlib.Core.List.{List, []}
-use native.Mathlib.Numerals.{add-one}
 use native.Mathlib.Omega.{arith}
 use lib.Dec.{eqb}
 use lib.ListN.{length, getD, set, length-set, replicate, length-replicate, getD-replicate}
 use lib.Seq.{getD-set-same, getD-set-other}
 use borrow.Author.Tests.{eq-eqb, ne-eqb}
-use Rattle.csdl.specs.Search.{firstFrom, orElse}
 use Rattle.csdl.specs.Climb.{nearest}
+use Rattle.csdl.proofs.Logic.{first-same, equal-or-not}
+use Rattle.csdl.proofs.Climbing.{nearest-test}
 use Rattle.csdl.specs.Tables.{typeBase, typeCount, propertyCount, propertyOwner}
 use Rattle.csdl.specs.Model.{modelOf}
 use Rattle.csdl.specs.Find.{declares, own, find, isNameOf}
-use Rattle.lookup.specs.Near.{leftAt, only}
-use Rattle.lookup.proofs.Near.{Near, near-start, near-other, near-nearer, near-farther}
+use Rattle.type_hierarchy.specs.Near.{leftAt, only}
+use Rattle.type_hierarchy.proofs.Near.{Near, near-start, near-other, near-nearer, near-farther}
 use Rattle.name_classes.specs.Classes.{nameOf, Ranked}
 use Rattle.name_classes.proofs.Ranks.{small, same-class}
-use Rattle.name_classes.proofs.Sorting.{even}
-use Rattle.type_names.specs.Nearest.{nearestOf, Meaning}
+use Rattle.type_names.specs.Nearest.{Meaning}
 
 -- ---- one pass over the properties
 module _ (owner class : ℕ → ℕ) (next : ℕ → ℕ) (all t : ℕ) where
@@ -43,7 +42,7 @@ module _ (owner class : ℕ → ℕ) (next : ℕ → ℕ) (all t : ℕ) where
     meant-nearer l = record {
       places = length-set found c (p + 1) ∙ m .places;
       size = length-set near c left ∙ m .size;
-      is = λ h k. even h c
+      is = λ h k. equal-or-not h c
           (λ z. rw (z, getD-set-same found c (p + 1) 0 (rw (m .places) small), getD-set-same near c left 0 (rw (m .size) small))
           (near-nearer owner (λ q. eqb (class q) c) next all t p (getD found c 0) (getD near c 0) (m .is c small) true left (sym (eq-eqb (class p) c (sym here))) refl e l))
           (λ z. rw (getD-set-other found c h (p + 1) 0 z, getD-set-other near c h left 0 z) (other h k z));
@@ -53,7 +52,7 @@ module _ (owner class : ℕ → ℕ) (next : ℕ → ℕ) (all t : ℕ) where
     meant-farther l = record {
       places = m .places;
       size = m .size;
-      is = λ h k. even h c
+      is = λ h k. equal-or-not h c
           (λ z. rw z (near-farther owner (λ q. eqb (class q) c) next all t p (getD found c 0) (getD near c 0) (m .is c small) true left (sym (eq-eqb (class p) c (sym here))) refl e l))
           (λ z. other h k z);
     }
@@ -67,14 +66,7 @@ meaning types properties index t found near m = record { size = m .places; is = 
 nearest-same : (f g next : ℕ → ℕ) → ((u : ℕ) → f u ≡ g u) → (l t : ℕ) → nearest f next l t ≡ nearest g next l t
 unfolding nearest
 nearest-same f g next e zero t = refl
-nearest-same f g next e (suc l) t = rw (e t, nearest-same f g next e l (next t - 1))
-
-first-same : (f g : ℕ → Bool) (n i : ℕ) → ((k : ℕ) → k < i + n → f k ≡ g k) → firstFrom f i n ≡ firstFrom g i n
-unfolding firstFrom
-first-same f g zero i e = refl
-first-same f g (suc n) i e =
-    let rest : firstFrom f (i + 1) n ≡ firstFrom g (i + 1) n = first-same f g n (i + 1) (λ k b. e k (omega arith)) in
-    rw (e i (omega arith), rest)
+nearest-same f g next e (suc l) t = rw (nearest-test next l t f, nearest-test next l t g, e t, nearest-same f g next e l (next t - 1))
 
 pub entry-lt : (properties names index : List ℕ) → Ranked (λ p. nameOf properties names p) (propertyCount properties) (getD index 1536 0) index → propertyCount properties ≤ 512
     → (p : ℕ) → p < propertyCount properties → getD index (512 + p) 0 < 513
@@ -89,5 +81,5 @@ module _ (types properties names index : List ℕ) (t : ℕ) (w : Ranked (λ p. 
       ap (λ (x : ℕ). eqb x (suc p))
       (m .is c (entry-lt properties names index w few p h)
       ∙ nearest-same _ _ (λ u. typeBase types u)
-      (λ u. first-same _ _ (propertyCount properties) 0 (λ q k. ap (λ (b : Bool). eqb (propertyOwner properties q) u && b) (same-class (λ p. nameOf properties names p) (propertyCount properties) (getD index 1536 0) index w q p (omega (arith, k)) h)))
+      (λ u. first-same _ _ 0 (propertyCount properties) (λ q a k. ap (λ (b : Bool). eqb (propertyOwner properties q) u && b) (same-class (λ p. nameOf properties names p) (propertyCount properties) (getD index 1536 0) index w q p (omega (arith, k)) h)))
       (typeCount types) t)

@@ -10,12 +10,11 @@ use lib.Dec.{eqb, ltb}
 use lib.ListN.{length, getD, set, length-set, replicate, getD-replicate}
 use lib.Seq.{getD-set-same, getD-set-other, ext-getD}
 use borrow.Author.Tests.{eq-eqb, ne-eqb, lt-ltb, le-ltb}
-use Rattle.csdl.specs.Search.{mark, anyFrom, tab}
-use Rattle.csdl.proofs.Logic.{any-found, any-none, any-of, none-any, tab-length, tab-at}
-use Rattle.lookup.specs.Sets.{member, setOf, Holds}
-use Rattle.lookup.proofs.SetLaws.{member-none, set-same}
-use Rattle.name_classes.proofs.Sorting.{even, split}
-use Rattle.type_names.specs.Wide.{wide, HoldsWide, oneOnly, unlikeWide, withRow}
+use Rattle.csdl.specs.Search.{oneIf, anyFrom, tab}
+use Rattle.csdl.proofs.Logic.{any-found, any-none, any-of, none-any, tab-length, tab-at, equal-or-not, below-or-not}
+use Rattle.type_hierarchy.specs.Sets.{member, setOf, Members}
+use Rattle.type_hierarchy.proofs.SetLaws.{member-none, set-same}
+use Rattle.type_names.specs.Wide.{wide, MembersWide, oneOnly, unlikeWide, withRow}
 
 -- The empty set.
 pub wide-none : (p : ℕ) → p < 512 → wide (replicate 8 0) 0 p ≡ false
@@ -23,15 +22,15 @@ unfolding wide
 wide-none p h = let k : 0 + p / 64 < 8 = omega arith in rw (getD-replicate {A = ℕ} 8 (0 + p / 64) 0 0 k) (member-none (p % 64))
 
 same-digit : (p q : ℕ) → q / 64 ≡ p / 64 → eqb (p % 64) (q % 64) ≡ eqb p q
-same-digit p q h = even p q (λ z. rw (z, eq-eqb (q % 64) (q % 64) refl, eq-eqb q q refl)) (λ z. rw (ne-eqb p q z) (ne-eqb (p % 64) (q % 64) (λ y. z (omega (arith, y, h)))))
+same-digit p q h = equal-or-not p q (λ z. rw (z, eq-eqb (q % 64) (q % 64) refl, eq-eqb q q refl)) (λ z. rw (ne-eqb p q z) (ne-eqb (p % 64) (q % 64) (λ y. z (omega (arith, y, h)))))
 
 -- One number more, in the number of 64 bits that has it.
-module _ (words : List ℕ) (p v : ℕ) (size : length words ≡ 8) (small : p < 512) (more : Holds 64 v (λ i. member (getD words (p / 64) 0) i || eqb (p % 64) i)) where
-  pub wide-with : HoldsWide (set words (p / 64) v) 0 (λ q. wide words 0 q || eqb p q)
+module _ (words : List ℕ) (p v : ℕ) (size : length words ≡ 8) (small : p < 512) (more : Members 64 v (λ i. member (getD words (p / 64) 0) i || eqb (p % 64) i)) where
+  pub wide-with : MembersWide (set words (p / 64) v) 0 (λ q. wide words 0 q || eqb p q)
   unfolding wide
   wide-with q h =
       let e : 0 + q / 64 ≡ q / 64 = omega arith in
-      even (q / 64) (p / 64)
+      equal-or-not (q / 64) (p / 64)
       (λ z. rw (e, z, getD-set-same words (p / 64) v 0 (rw size (omega arith)), more (q % 64) (omega arith), same-digit p q z))
       (λ z. rw (e, getD-set-other words (p / 64) (q / 64) v 0 z, ne-eqb p q (λ y. z (omega (arith, y)))) (sym (or-false (member (getD words (q / 64) 0) (q % 64)))))
 
@@ -39,9 +38,9 @@ module _ (words : List ℕ) (p v : ℕ) (size : length words ≡ 8) (small : p <
 module _ (test : ℕ → Bool) (p q : ℕ) where
   pub below-with : test p ≡ true → (ltb q p && test q) || eqb p q ≡ ltb q (p + 1) && test q
   below-with t =
-      even p q
+      equal-or-not p q
       (λ z. rw (← z, eq-eqb p p refl, lt-ltb p (p + 1) (omega arith), t) (or-true (ltb p p && true)))
-      (λ z. rw (ne-eqb p q z, or-false (ltb q p && test q)) (split q p (λ l. rw (lt-ltb q p l, lt-ltb q (p + 1) (omega arith))) (λ l. rw (le-ltb q p l, le-ltb q (p + 1) (omega (arith, l, z))))))
+      (λ z. rw (ne-eqb p q z, or-false (ltb q p && test q)) (below-or-not q p (λ l. rw (lt-ltb q p l, lt-ltb q (p + 1) (omega arith))) (λ l. rw (le-ltb q p l, le-ltb q (p + 1) (omega (arith, l, z))))))
     where
       or-true : (b : Bool) → b || true ≡ true
       or-true true = refl
@@ -49,9 +48,9 @@ module _ (test : ℕ → Bool) (p q : ℕ) where
 
   pub below-without : test p ≡ false → ltb q p && test q ≡ ltb q (p + 1) && test q
   below-without t =
-      even q p
+      equal-or-not q p
       (λ z. rw (z, t) (and-false (ltb p p) ∙ sym (and-false (ltb p (p + 1)))))
-      (λ z. split q p (λ l. rw (lt-ltb q p l, lt-ltb q (p + 1) (omega arith))) (λ l. rw (le-ltb q p l, le-ltb q (p + 1) (omega (arith, l, z)))))
+      (λ z. below-or-not q p (λ l. rw (lt-ltb q p l, lt-ltb q (p + 1) (omega arith))) (λ l. rw (le-ltb q p l, le-ltb q (p + 1) (omega (arith, l, z)))))
     where
       and-false : (b : Bool) → b && false ≡ false
       and-false true = refl
@@ -61,7 +60,7 @@ module _ (test : ℕ → Bool) (p q : ℕ) where
   below-none e = rw (le-ltb q p (omega arith))
 
 -- ---- numbers of 64 bits that have the same bits are equal
-digit : (x : ℕ) → x < 2 → mark (eqb x 1) ≡ x
+digit : (x : ℕ) → x < 2 → oneIf (eqb x 1) ≡ x
 digit zero h = refl
 digit (suc zero) h = refl
 digit (suc (suc x)) h = absurd (omega arith)
@@ -157,7 +156,7 @@ module _ (rows row : List ℕ) (t : ℕ) where
   writing-next next k s h w = record {
     size = length-set next (8 * t + k) (getD row k 0) ∙ w .size;
     most = omega arith;
-    done = λ j l. even j k
+    done = λ j l. equal-or-not j k
         (λ z. rw (z, getD-set-same next (8 * t + k) (getD row k 0) 0 (rw (w .size) (omega arith))))
         (λ z. getD-set-other next (8 * t + k) (8 * t + j) (getD row k 0) 0 (λ y. z (omega (arith, y))) ∙ w .done j (omega (arith, l, z)));
     kept = λ i n. getD-set-other next (8 * t + k) i (getD row k 0) 0 (λ y. n (omega (arith, y, h))) ∙ w .kept i n;
@@ -172,7 +171,7 @@ module _ (rows row : List ℕ) (t : ℕ) where
       ext-getD 0 next (tab entry 0 512) (w .size ∙ sym (tab-length entry 0 512)) (λ i l. at i ∙ sym (tab-at entry 0 512 i (omega (arith, l, w .size))))
     where
       at : (i : ℕ) → getD next i 0 ≡ entry i
-      at i = even (i / 8) t
+      at i = equal-or-not (i / 8) t
           (λ z. let q : i ≡ 8 * t + i % 8 = omega (arith, z) in ap (λ (x : ℕ). getD next x 0) q ∙ w .done (i % 8) (omega (arith, h)) ∙ rw (eq-eqb (i / 8) t z))
           (λ z. w .kept i z ∙ rw (ne-eqb (i / 8) t z))
 

@@ -6,14 +6,14 @@ use mathlib.Core.List.{List}
 use lib.Dec.{eqb}
 use lib.ListN.{getD}
 use Rattle.csdl.specs.Search.{anyFrom, tab}
-use Rattle.lookup.specs.Sets.{member}
+use Rattle.type_hierarchy.specs.Sets.{member}
 
 unfoldable pub wide : List ℕ → ℕ → ℕ → Bool
 wide words from p = member (getD words (from + p / 64) 0) (p % 64)
 
 -- The set has the numbers that pass the test.
-abbrev pub HoldsWide : List ℕ → ℕ → (ℕ → Bool) → Type 0
-HoldsWide words from test = (p : ℕ) → p < 512 → wide words from p ≡ test p
+abbrev pub MembersWide : List ℕ → ℕ → (ℕ → Bool) → Type 0
+MembersWide words from test = (p : ℕ) → p < 512 → wide words from p ≡ test p
 
 -- Of two answers one is true, and not the other.
 abbrev pub oneOnly : Bool → Bool → Bool

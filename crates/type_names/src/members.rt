@@ -9,13 +9,13 @@ ghost use Rattle.csdl.specs.Tables.{propertyCount};
 ghost use Rattle.csdl.specs.Model.{modelOf};
 ghost use Rattle.csdl.specs.Find.{isNameOf};
 ghost use Rattle.name_classes.specs.Classes.{nameOf, Ranked};
-ghost use Rattle.type_names.specs.Wide.{HoldsWide};
+ghost use Rattle.type_names.specs.Wide.{MembersWide};
 ghost use Rattle.type_names.specs.Nearest as specs;
 ghost use Rattle.model_image.specs.Limits.{FewProperties, FewTypes};
 use crate::wide::with_wide;
-use lookup::nearness::nearness_of;
 use model_image::properties::property_count;
 use model_image::properties::property_owner;
+use type_hierarchy::nearness::nearness_of;
 
 // What each name means at t, at the place of the name's entry.
 fn meaning_of(types: &[u8], properties: &[u8], index: &[u16], t: u16) -> [u16; 513]
@@ -42,7 +42,7 @@ fn meaning_of(types: &[u8], properties: &[u8], index: &[u16], t: u16) -> [u16; 5
 // The names of t.
 pub fn names_of(types: &[u8], properties: &[u8], names: &[u8], index: &[u16], t: u16) -> [u64; 8]
     requires { ⌜ FewTypes (now types) × FewProperties (now properties) × (t < 128) × Ranked (λ p. nameOf (now properties) (now names) p) (propertyCount (now properties)) (getD (now index) 1536 0) (now index) ⌝ }
-    ensures { λ r. ⌜ (length r ≡ 8) × HoldsWide r 0 (λ p. ltb p (propertyCount (now (properties .entry))) && isNameOf (modelOf [] (now (types .entry)) (now (properties .entry)) [] [] [] [] [] (now (names .entry))) t p) ⌝ }
+    ensures { λ r. ⌜ (length r ≡ 8) × MembersWide r 0 (λ p. ltb p (propertyCount (now (properties .entry))) && isNameOf (modelOf [] (now (types .entry)) (now (properties .entry)) [] [] [] [] [] (now (names .entry))) t p) ⌝ }
 {
     let found = meaning_of(types, properties, index, t);
     let n = property_count(properties);

@@ -4,9 +4,9 @@ ghost use mathlib.Core.Bool.{_||_};
 ghost use Prim.Native.Nat.{ℕ, _+_, _≤_, _<_};
 ghost use lib.Dec.{eqb};
 ghost use lib.ListN.{length};
-ghost use Rattle.type_names.specs.Wide.{wide, HoldsWide, unlikeWide, withRow};
-use lookup::type_sets::in_set;
-use lookup::type_sets::with_one;
+ghost use Rattle.type_names.specs.Wide.{wide, MembersWide, unlikeWide, withRow};
+use type_hierarchy::type_sets::in_set;
+use type_hierarchy::type_sets::with_one;
 
 // Whether p is in the set.
 pub fn in_wide(words: &[u64], from: usize, p: u16) -> bool
@@ -19,7 +19,7 @@ pub fn in_wide(words: &[u64], from: usize, p: u16) -> bool
 // The set, and p in it.
 pub fn with_wide(words: [u64; 8], p: u16) -> [u64; 8]
     requires { ⌜ (length words ≡ 8) × (p < 512) ⌝ }
-    ensures { λ r. ⌜ (length r ≡ 8) × HoldsWide r 0 (λ q. wide words 0 q || eqb p q) ⌝ }
+    ensures { λ r. ⌜ (length r ≡ 8) × MembersWide r 0 (λ q. wide words 0 q || eqb p q) ⌝ }
 {
     let k = (p / 64) as usize;
     let mut next = words;

@@ -1,8 +1,8 @@
 -- The answer of a walk and what it leaves in the buffer, case by case, by the definitions and by demand 3.
 use Prim.Native.Nat.{ℕ, _+_, _*_, _/_, _≤_, _<_, zero-le}
-use mathlib.Core.Path.{_≡_, refl, sym, ap, _∙_}
+use mathlib.Core.Path.{_≡_, refl, sym, ap, subst, _∙_}
 use mathlib.Core.List.{List, [], _∷_, _++_}
-use mathlib.Core.Bool.{Bool, true, false, false≢true, cond, not}
+use mathlib.Core.Bool.{true, false, false≢true, not}
 use mathlib.Core.Logic.{inl, inr, ⊎-elim}
 use native.Mathlib.Nat.{zero-add}
 use native.Mathlib.Omega.{arith}
@@ -15,35 +15,35 @@ use Rattle.csdl.specs.Model.{Model}
 use Rattle.csdl.specs.Find.{ancestorOrSelf}
 use Rattle.csdl.specs.Image.{modelIn}
 use Rattle.csdl.specs.Path.{pathOf, startOf}
+use Rattle.csdl.specs.declared.PathKind.{PathKind}
+use Rattle.csdl.specs.declared.Chosen.{Chosen}
 use Rattle.csdl.specs.Instance.{Instance, instanceIn, image20, itemBytes}
 use Rattle.csdl.specs.Conforms.{instanceAnswer}
 use Rattle.csdl.specs.Verdict.{Answer, Stage, verdict}
 use Rattle.csdl.specs.Verdict.Answer.{accepted, refused}
 use Rattle.csdl.specs.Verdict.Stage.{whole}
 use Rattle.csdl.specs.Walk.{bytesOfItem, chosenStart, walk27, walk28, walk29, walkPath, walkResults, walkOpened, walkAnswer, resultBytes, walkBuffer}
-use Rattle.csdl.specs.Walk.Chosen.{none, chosen}
+use Rattle.csdl.specs.declared.Chosen.the-variants.{NoPath, PathOf}
 use Rattle.csdl.specs.Accepted.{InstancePasses}
 use Rattle.csdl.proofs.Logic.{or-no}
 use Rattle.csdl.proofs.Verdicts.{instance-accepts, instance-refuses, instance-then-refuses}
 use Rattle.model_image.specs.Sized.{Sized}
 use Rattle.model_image.proofs.Parts.{layout}
 use Rattle.instance_image.proofs.Sizes.{sized}
-use Rattle.path_kinds.specs.Kinds.{kindOf}
 use Rattle.soundness.proofs.Counts.{bytes-length}
 use Rattle.soundness.proofs.Demands.{results-are, opened-are, not-refused, opened-at-most, results-at-most, results-fit-buffer, premises-of-walk}
-use Rattle.walk_path.specs.declared.Choice.{Choice}
-use Rattle.walk_path.specs.Chosen.{choiceOf, choiceFor}
-use Rattle.walk_path.proofs.Choices.{choice-back}
+use Rattle.walk_path.specs.Chosen.{chosenPath}
 use Rattle.walk.specs.Along.{bytesAlong, openedAlong}
 use Rattle.walk.specs.Opened.{openedOf}
 
-is-chosen : (kind holder : ℕ) → walk27 (choiceOf kind holder) ≡ false → choiceOf kind holder ≡ chosen (kindOf kind) holder
-unfolding choiceOf
-is-chosen kind holder = go (ltb kind 6)
-  where
-    go : (b : Bool) → walk27 (cond b (chosen (kindOf kind) holder) none) ≡ false → cond b (chosen (kindOf kind) holder) none ≡ chosen (kindOf kind) holder
-    go true e = refl
-    go false e = absurd (false≢true (sym e))
+-- Where rule 27 is kept there is a path: its kind and its holder.
+module _ (c : Chosen) (a : walk27 c ≡ false) where
+  there-is : (kind : PathKind) × (holder : ℕ) × (c ≡ PathOf kind holder)
+  there-is = go c a
+    where
+      go : (x : Chosen) → walk27 x ≡ false → (kind : PathKind) × (holder : ℕ) × (x ≡ PathOf kind holder)
+      go NoPath e = absurd (false≢true (sym e))
+      go (PathOf w r) e = (w, r, refl)
 
 module _ (model image : List ℕ) (place n v : ℕ) (buffer : List ℕ) where
   -- What a walk owes where it answers so and leaves the buffer so.
@@ -92,68 +92,78 @@ module _ (model image : List ℕ) (place n v : ℕ) (buffer : List ℕ) where
         refusing rule 0 (instance-then-refuses model image (verdict 0 stages counts) rule 0 .1 (inr (passes .model-passes, inr (passes, e))))
 
     -- Rules 27, 28 and 29, in that order.
-    module _ (c : Choice) (choice : c ≡ choiceFor (walkPath model place n)) where
-      abbrev kind : ℕ
-      kind = c .kind
-
-      abbrev holder : ℕ
-      holder = c .holder
-
-      chosen-is : choiceOf kind holder ≡ walkPath model place n
-      chosen-is = rw choice (choice-back (walkPath model place n))
-
-      pub refused-27 : walk27 (choiceOf kind holder) ≡ true → Owed (refused 27 0) buffer
+    module _ (c : Chosen) (choice : c ≡ walkPath model place n) where
+      pub refused-27 : walk27 c ≡ true → Owed (refused 27 0) buffer
       unfolding verdict
-      refused-27 e = let z : walk27 (walkPath model place n) ≡ true = rw (← chosen-is) e in refused-by 27 (rw z)
+      refused-27 e = let z : walk27 (walkPath model place n) ≡ true = rw (← choice) e in refused-by 27 (rw z)
 
-      module _ (a : walk27 (choiceOf kind holder) ≡ false) where
-        path-is : walkPath model place n ≡ chosen (kindOf kind) holder
-        path-is = sym chosen-is ∙ is-chosen kind holder a
+      module _ (a : walk27 c ≡ false) where
+        abbrev kind : PathKind
+        kind = there-is c a .0
 
-        pub refused-28 : walk28 m i (startOf m (kindOf kind) holder) v ≡ true → Owed (refused 28 0) buffer
+        abbrev holder : ℕ
+        holder = there-is c a .1
+
+        path-is : walkPath model place n ≡ PathOf kind holder
+        path-is = sym choice ∙ there-is c a .2
+
+        kept-27 : walk27 (walkPath model place n) ≡ false
+        kept-27 = rw (← choice) a
+
+        pub refused-28 : walk28 m i (chosenStart m c) v ≡ true → Owed (refused 28 0) buffer
         unfolding verdict
-        refused-28 e = refused-by 28 (rw (path-is, e))
+        refused-28 e = let z : walk28 m i (chosenStart m (walkPath model place n)) v ≡ true = rw (← choice) e in refused-by 28 (rw (kept-27, z))
 
-        module _ (b : walk28 m i (startOf m (kindOf kind) holder) v ≡ false) where
+        module _ (b : walk28 m i (chosenStart m c) v ≡ false) where
+          kept-28 : walk28 m i (chosenStart m (walkPath model place n)) v ≡ false
+          kept-28 = rw (← choice) b
+
           pub refused-29 : walk29 i buffer ≡ true → Owed (refused 29 0) buffer
           unfolding verdict
-          refused-29 e = refused-by 29 (rw (path-is, b, e))
+          refused-29 e = refused-by 29 (rw (kept-27, kept-28, e))
 
           there : v < i .nodes
           unfolding walk28
           there =
               ltb-true v (i .nodes)
-              (not-false (ltb v (i .nodes)) (or-no (not (ltb v (i .nodes))) (not (ancestorOrSelf m (startOf m (kindOf kind) holder) (i .nodeType v))) b .0))
+              (not-false (ltb v (i .nodes)) (or-no (not (ltb v (i .nodes))) (not (ancestorOrSelf m (chosenStart m c) (i .nodeType v))) b .0))
 
-          fitting : ancestorOrSelf m (startOf m (kindOf kind) holder) (i .nodeType v) ≡ true
+          fitting : ancestorOrSelf m (startOf m kind holder) (i .nodeType v) ≡ true
           unfolding walk28
           fitting =
-              not-false (ancestorOrSelf m (startOf m (kindOf kind) holder) (i .nodeType v))
-              (or-no (not (ltb v (i .nodes))) (not (ancestorOrSelf m (startOf m (kindOf kind) holder) (i .nodeType v))) b .1)
+              subst (λ (x : Chosen). ancestorOrSelf m (chosenStart m x) (i .nodeType v) ≡ true) (there-is c a .2)
+              (not-false (ancestorOrSelf m (chosenStart m c) (i .nodeType v))
+              (or-no (not (ltb v (i .nodes))) (not (ancestorOrSelf m (chosenStart m c) (i .nodeType v))) b .1))
 
           pub start-small : v < 256
           start-small = let z = sized image keeps-20 in omega (arith, there, z .nodes-count, z .nodes-most)
 
           -- Else the walk: its results fit, its counts are small, and it answers them.
-          module _ (d : walk29 i buffer ≡ false) (first count : ℕ) (f : first ≡ pathOf m (kindOf kind) holder .first) (g : count ≡ pathOf m (kindOf kind) holder .count) where
+          module _ (d : walk29 i buffer ≡ false) (first count : ℕ) (f : first ≡ chosenPath m c .first) (g : count ≡ chosenPath m c .count) where
+            first-is : first ≡ pathOf m kind holder .first
+            first-is = f ∙ ap (λ (x : Chosen). chosenPath m x .first) (there-is c a .2)
+
+            count-is : count ≡ pathOf m kind holder .count
+            count-is = g ∙ ap (λ (x : Chosen). chosenPath m x .count) (there-is c a .2)
+
             room : itemBytes * (1 + i .slots + i .items) ≤ length buffer
             unfolding walk29
             room = ltb-false (length buffer) (itemBytes * (1 + i .slots + i .items)) d
 
             bytes-are : bytesAlong model image first count v ≡ resultBytes model image place n v
             unfolding bytesAlong resultBytes
-            bytes-are = rw (f, g) (ap (flat (λ x. bytesOfItem x)) (sym (results-are model image conforms place n (kindOf kind) holder path-is v there fitting)))
+            bytes-are = rw (first-is, count-is) (ap (flat (λ x. bytesOfItem x)) (sym (results-are model image conforms place n kind holder path-is v there fitting)))
 
             slots-are : openedAlong model image first count v ≡ walkOpened model image place n v
             unfolding openedAlong
-            slots-are = rw (f, g) (sym (opened-are model image conforms place n (kindOf kind) holder path-is v there fitting))
+            slots-are = rw (first-is, count-is) (sym (opened-are model image conforms place n kind holder path-is v there fitting))
 
             pub bytes-fit : length (bytesAlong model image first count v) ≤ length buffer
             bytes-fit =
                 omega (
                   arith,
                   ap length bytes-are,
-                  results-fit-buffer model image conforms place n (kindOf kind) holder path-is v there fitting,
+                  results-fit-buffer model image conforms place n kind holder path-is v there fitting,
                   room,
                 )
 
@@ -163,7 +173,7 @@ module _ (model image : List ℕ) (place n v : ℕ) (buffer : List ℕ) where
                 omega (
                   arith,
                   ap length slots-are,
-                  opened-at-most model image conforms place n (kindOf kind) holder path-is v there fitting,
+                  opened-at-most model image conforms place n kind holder path-is v there fitting,
                   z .slots-count,
                   z .slots-most,
                 )
@@ -178,7 +188,7 @@ module _ (model image : List ℕ) (place n v : ℕ) (buffer : List ℕ) where
                 omega (
                   arith,
                   four-each,
-                  results-at-most model image conforms place n (kindOf kind) holder path-is v there fitting,
+                  results-at-most model image conforms place n kind holder path-is v there fitting,
                   z .slots-count,
                   z .slots-most,
                   z .items-count,
@@ -190,7 +200,7 @@ module _ (model image : List ℕ) (place n v : ℕ) (buffer : List ℕ) where
                 Owed (accepted (end / 4 ∷ opened ∷ [])) out
             unfolding walkBuffer
             answered {end} {opened} {out} x y z =
-                let w = not-refused model image conforms place n (kindOf kind) holder path-is v there fitting buffer room in
+                let w = not-refused model image conforms place n kind holder path-is v there fitting buffer room in
                 let e : end / 4 ≡ length (walkResults model image place n v) = omega (arith, y, four-each) in
                 let o : opened ≡ length (walkOpened model image place n v) = z ∙ ap length slots-are in
                 let b = bytesAlong model image first count v in

@@ -10,13 +10,13 @@ use Rattle.csdl.specs.Model.{Model}
 use Rattle.csdl.specs.Image.{modelIn}
 use Rattle.csdl.specs.Instance.{Instance, instanceOf, instanceIn, nodeTypeIn}
 use Rattle.csdl.specs.Walk.{Item, walked, opened, bytesOfItem, walk28, walk29}
-use Rattle.csdl.specs.Walk.Item.{held}
+use Rattle.csdl.specs.Walk.Item.{value}
 use Rattle.instance_image.specs.Tables.{nodesIn, slotsIn, itemsIn}
 use Rattle.walk_step.specs.Seen.{itemOf, pathFrom, written, openings}
 use Rattle.walk.specs.Along.{bytesAlong, openedAlong}
 
 -- A node's own item is not null.
-own-item : (nodes : List ℕ) (v : ℕ) → itemOf (nodeTypeIn nodes v) v ≡ held (nodeTypeIn nodes v) v
+own-item : (nodes : List ℕ) (v : ℕ) → itemOf (nodeTypeIn nodes v) v ≡ value (nodeTypeIn nodes v) v
 unfolding itemOf
 own-item nodes v = rw (ne-eqb (nodeTypeIn nodes v) 255 (λ e. omega (arith, field-lt nodes (32 * v) 6)))
 

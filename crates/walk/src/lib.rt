@@ -26,8 +26,8 @@ use walk_items::Done;
 use walk_items::Here;
 use walk_items::walk_from;
 use walk_path::choose;
-use walk_path::path_in;
-use walk_path::start_in;
+use walk_path::chosen_path;
+use walk_path::chosen_start;
 use walk_path::walk_27;
 use walk_path::walk_28;
 use walk_path::walk_29;
@@ -77,9 +77,9 @@ fn walk_conforming(
     ensures { λ r. ⌜ now (results .exit) ≡ walkBuffer (now (model .entry)) (now (instance .entry)) place path node (now (results .entry)) ⌝ }
 {
     let at = layout_of(model);
-    let c = choose(model, at, place, path);
-    let t = start_in(model, at, c.kind, c.holder);
-    let no_path = walk_27(c.kind, c.holder);
+    let chosen = choose(model, at, place, path);
+    let t = chosen_start(model, at, chosen);
+    let no_path = walk_27(chosen);
     let bad_start = walk_28(model, at, nodes_of(instance), t, node);
     if no_path {
         return WalkAnswer::Refused { rule: 27, place: 0 };
@@ -90,7 +90,7 @@ fn walk_conforming(
     if walk_29(slots_of(instance), items_of(instance), results) {
         return WalkAnswer::Refused { rule: 29, place: 0 };
     }
-    let run = path_in(model, at, c.kind, c.holder);
+    let run = chosen_path(model, at, chosen);
     let d = walk_along(
         model,
         at,

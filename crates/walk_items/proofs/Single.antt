@@ -10,7 +10,7 @@ use Rattle.csdl.specs.Path.{Segment}
 use Rattle.csdl.specs.Path.Segment.{name, cast}
 use Rattle.csdl.specs.Instance.{Instance}
 use Rattle.csdl.specs.Walk.{Item, Origin, opening, openedBy, after, nextStage, walked, opened, bytesOfItem}
-use Rattle.csdl.specs.Walk.Item.{null, held}
+use Rattle.csdl.specs.Walk.Item.{null, value}
 use Rattle.csdl.specs.Walk.Origin.{at-slot}
 use Rattle.soundness.proofs.Lists.{flat-one, flat-append}
 use Rattle.walk_step.specs.Seen.{itemOf, erase, erased}
@@ -109,19 +109,19 @@ module _ (m : Model) (i : Instance) where
   opens-null (cast c ∷ gs) o = opens-null gs o
 
   -- Where a null came in is not seen.
-  pub bytes-null : (gs : List Segment) (o : Origin) → bytes gs (null o) ≡ bytesOfItem (held 255 0)
+  pub bytes-null : (gs : List Segment) (o : Origin) → bytes gs (null o) ≡ bytesOfItem (value 255 0)
   unfolding bytesOfItem
   bytes-null gs o = ap (flat (λ y. bytesOfItem y)) (results-null gs o) ∙ flat-one (λ y. bytesOfItem y) (null o)
 
   bytes-erase : (gs : List Segment) (x : Item) → bytes gs x ≡ bytes gs (erase x)
   unfolding erase
   bytes-erase gs (null o) = bytes-null gs o ∙ sym (bytes-null gs (at-slot 0))
-  bytes-erase gs (held r v) = refl
+  bytes-erase gs (value r v) = refl
 
   opens-erase : (gs : List Segment) (x : Item) → opens gs x ≡ opens gs (erase x)
   unfolding erase
   opens-erase gs (null o) = opens-null gs o ∙ sym (opens-null gs (at-slot 0))
-  opens-erase gs (held r v) = refl
+  opens-erase gs (value r v) = refl
 
   -- At the end of the path an item is its own result.
   pub bytes-end : (x : Item) → bytes [] x ≡ bytesOfItem x
@@ -132,22 +132,22 @@ module _ (m : Model) (i : Instance) where
   unfolding opened
   opens-end x = refl
 
-  -- One segment, where a run of items takes the item's place.
+  -- One segment, where some items take the item's place.
   module _ (g : Segment) (gs : List Segment) (r v : ℕ) (ref handle : ℕ → ℕ) (first count : ℕ)
-      (run : erased (after m i g (held r v)) ≡ tab (λ q. itemOf (ref q) (handle q)) first count) where
-    pub bytes-step : bytes (g ∷ gs) (held r v) ≡ flat (λ q. bytes gs (itemOf (ref q) (handle q))) (tab (λ q. q) first count)
+      (next : erased (after m i g (value r v)) ≡ tab (λ q. itemOf (ref q) (handle q)) first count) where
+    pub bytes-step : bytes (g ∷ gs) (value r v) ≡ flat (λ q. bytes gs (itemOf (ref q) (handle q))) (tab (λ q. q) first count)
     bytes-step =
-        ap (flat (λ y. bytesOfItem y)) (results-more g gs (held r v))
-        ∙ flat-flat (λ y. bytesOfItem y) (results gs) (after m i g (held r v))
-        ∙ flat-erased (bytes gs) (bytes-erase gs) (after m i g (held r v))
-        ∙ ap (flat (bytes gs)) run
+        ap (flat (λ y. bytesOfItem y)) (results-more g gs (value r v))
+        ∙ flat-flat (λ y. bytesOfItem y) (results gs) (after m i g (value r v))
+        ∙ flat-erased (bytes gs) (bytes-erase gs) (after m i g (value r v))
+        ∙ ap (flat (bytes gs)) next
         ∙ flat-tab (bytes gs) (λ q. itemOf (ref q) (handle q)) first count
 
-    pub count-step : length (opens (g ∷ gs) (held r v))
-        ≡ length (openedBy (opening m i g (held r v))) + length (flat (λ q. opens gs (itemOf (ref q) (handle q))) (tab (λ q. q) first count))
+    pub count-step : length (opens (g ∷ gs) (value r v))
+        ≡ length (openedBy (opening m i g (value r v))) + length (flat (λ q. opens gs (itemOf (ref q) (handle q))) (tab (λ q. q) first count))
     count-step =
-        count-more g gs (held r v)
-        ∙ ap (λ (l : List ℕ). length (openedBy (opening m i g (held r v))) + length l)
-        (flat-erased (opens gs) (opens-erase gs) (after m i g (held r v))
-        ∙ ap (flat (opens gs)) run
+        count-more g gs (value r v)
+        ∙ ap (λ (l : List ℕ). length (openedBy (opening m i g (value r v))) + length l)
+        (flat-erased (opens gs) (opens-erase gs) (after m i g (value r v))
+        ∙ ap (flat (opens gs)) next
         ∙ flat-tab (opens gs) (λ q. itemOf (ref q) (handle q)) first count)

@@ -6,15 +6,16 @@ ghost use lib.Seq.{sets};
 ghost use Rattle.csdl.specs.Image.{modelIn};
 ghost use Rattle.csdl.specs.Instance.{instanceOf};
 ghost use Rattle.csdl.specs.Walk.{bytesOfItem};
-ghost use Rattle.csdl.specs.Walk.Item.{held};
+ghost use Rattle.csdl.specs.Walk.Item.{value};
 ghost use Rattle.model_image.specs.Laid.{Laid, typesIn};
 ghost use Rattle.walk_step.specs.Seen.{stopsAt, Ancestors};
 ghost use Rattle.walk_items.specs.From.{writtenFrom, openedFrom};
 ghost use Rattle.instance_image.specs.Limits.{FewNodes};
 use model_image::layout::Layout;
+use packed::byte_of;
 use walk_step::Item;
 use walk_step::item_in;
-use walk_step::run_of;
+use walk_step::next_of;
 
 // Where a walk stands: at an item before segment k, with `left` segments to take. Its results go into the buffer from byte `end` on.
 // `ancestors` is the set that the item carries.
@@ -46,12 +47,12 @@ fn stops(left: u16, t: u8, v: u32) -> bool
 // A result, as an item.
 fn write_item(out: &mut [u8], at: usize, t: u8, v: u32)
     requires { ⌜ at + 4 ≤ length (now out) ⌝ }
-    ensures { λ r. ⌜ now (out .exit) ≡ sets (now (out .entry)) at (bytesOfItem (held t v)) ⌝ }
+    ensures { λ r. ⌜ now (out .exit) ≡ sets (now (out .entry)) at (bytesOfItem (value t v)) ⌝ }
 {
     out[at] = t;
-    out[at + 1] = ((v / 65536) % 256) as u8;
-    out[at + 2] = ((v / 256) % 256) as u8;
-    out[at + 3] = (v % 256) as u8;
+    out[at + 1] = byte_of(v, 2);
+    out[at + 2] = byte_of(v, 1);
+    out[at + 3] = byte_of(v, 0);
 }
 
 // The walk of an item: its results in the buffer, where they end, and how many slots it opened.
@@ -83,12 +84,12 @@ pub fn walk_from(
         v: here.v,
         ancestors: here.ancestors,
     };
-    let run = run_of(model, at, nodes, slots, here.k, met);
+    let step = next_of(model, at, nodes, slots, here.k, met);
     let mut end = here.end;
-    let mut opened = run.opened;
+    let mut opened = step.opened;
     let mut j: u16 = 0;
-    while j < run.count {
-        let item = item_in(items, run, run.first + j);
+    while j < step.count {
+        let item = item_in(items, step, step.first + j);
         let next = Here {
             k: here.k + 1,
             left: here.left - 1,

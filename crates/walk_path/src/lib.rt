@@ -1,135 +1,137 @@
 // The path that a walk takes, and rules 27 to 29.
 ghost use mathlib.Core.Path.{_≡_};
+ghost use mathlib.Core.Bool.{cond};
 ghost use mathlib.Core.List.{[]};
 ghost use Prim.Native.Nat.{_<_};
+ghost use lib.Dec.{eqb};
 ghost use Rattle.csdl.specs.Image.{modelIn};
-ghost use Rattle.csdl.specs.Path.{pathOf, startOf};
 ghost use Rattle.csdl.specs.Instance.{instanceOf};
-ghost use Rattle.csdl.specs.Walk.{walkPath, walk27, walk28, walk29};
+ghost use Rattle.csdl.specs.Walk.{ifPresent, pathChosen, chosenStart, walkPath, walk27, walk28, walk29};
+ghost use Rattle.csdl.specs.declared.Chosen.the-variants.{NoPath};
 ghost use Rattle.model_image.specs.Laid.{Laid};
-ghost use Rattle.path_kinds.specs.Kinds.{kindOf};
-ghost use Rattle.walk_path.specs.Chosen.{choiceOf, choiceFor, kindBy, kindIn, numberIn};
+ghost use Rattle.walk_path.specs.Chosen.{chosenPath};
 ghost use Rattle.instance_image.specs.Limits.{FewItems, FewNodes, FewSlots};
+use csdl::Chosen;
+use csdl::PathKind;
 use csdl::Record;
+use csdl::Run;
 use instance_image::fields::item_count;
 use instance_image::fields::node_count;
 use instance_image::fields::node_type;
 use instance_image::fields::slot_count;
-use lookup::bases::ancestor_or_self;
-use model_image::fields::Run;
 use model_image::layout::Layout;
-use model_image::layout::bindings_of;
-use model_image::layout::children_of;
-use model_image::layout::constraints_of;
-use model_image::layout::keys_of;
-use model_image::layout::properties_of;
 use model_image::layout::record_at;
 use model_image::layout::types_of;
-use path_kinds::kinds::path_of;
-use path_kinds::kinds::start_of;
+use path_kinds::in_image::path_in;
+use path_kinds::in_image::start_in;
+use type_hierarchy::bases::ancestor_or_self;
 
-// A kind of path, by number, and the record that holds it; 6 is no path.
-pub struct Choice {
-    pub kind: u16,
-    pub holder: u16,
+// The path of the kind, if the record holds one.
+fn if_present(model: &[u8], at: Layout, kind: PathKind, holder: u16) -> Chosen
+    requires { ⌜ Laid (now model) at ⌝ }
+    ensures { λ r. ⌜ r ≡ ifPresent (modelIn (now (model .entry))) kind holder ⌝ }
+{
+    let run = path_in(model, at, kind, holder);
+    if run.count == 0 {
+        return Chosen::NoPath;
+    }
+    Chosen::PathOf { kind, holder }
 }
 
-// Path 0 is of the first kind, path 1 of the second.
-fn kind_by(first: u16, second: u16, path: u32) -> u16
-    ensures { λ r. ⌜ r ≡ kindBy first second path ⌝ }
+// Path 0 of a record that may hold one.
+fn only_path(model: &[u8], at: Layout, kind: PathKind, holder: u16, path: u32) -> Chosen
+    requires { ⌜ Laid (now model) at ⌝ }
+    ensures { λ r. ⌜ r ≡ cond (eqb path 0) (ifPresent (modelIn (now (model .entry))) kind holder) NoPath ⌝ }
 {
     if path == 0 {
-        return first;
+        return if_present(model, at, kind, holder);
+    }
+    Chosen::NoPath
+}
+
+// Path 0 or 1 of a record that may hold two.
+fn one_of_two(
+    model: &[u8],
+    at: Layout,
+    first: PathKind,
+    second: PathKind,
+    holder: u16,
+    path: u32,
+) -> Chosen
+    requires { ⌜ Laid (now model) at ⌝ }
+    ensures { λ r. ⌜ r ≡ cond (eqb path 0) (ifPresent (modelIn (now (model .entry))) first holder) (cond (eqb path 1) (ifPresent (modelIn (now (model .entry))) second holder) NoPath) ⌝ }
+{
+    if path == 0 {
+        return if_present(model, at, first, holder);
     }
     if path == 1 {
-        return second;
+        return if_present(model, at, second, holder);
     }
-    6
+    Chosen::NoPath
 }
 
-// The kind of a record's path, if it holds such a path.
-fn kind_in(rec: Record, path: u32) -> Choice
-    ensures { λ r. ⌜ (r .kind ≡ kindIn rec path) × (r .holder ≡ numberIn rec) ⌝ }
+// The path of a number of the record, if it holds such a path.
+fn path_chosen(model: &[u8], at: Layout, rec: Record, path: u32) -> Chosen
+    requires { ⌜ Laid (now model) at ⌝ }
+    ensures { λ r. ⌜ r ≡ pathChosen (modelIn (now (model .entry))) rec path ⌝ }
 {
     match rec {
-        Record::OfSchema(s) => Choice { kind: 6, holder: s },
-        Record::OfType(t) => Choice { kind: 6, holder: t },
-        Record::OfProperty(p) => Choice {
-            kind: kind_by(0, 6, path),
-            holder: p,
-        },
-        Record::OfKey(k) => Choice {
-            kind: kind_by(1, 6, path),
-            holder: k,
-        },
-        Record::OfConstraint(c) => Choice {
-            kind: kind_by(2, 3, path),
-            holder: c,
-        },
-        Record::OfChild(h) => Choice { kind: 6, holder: h },
-        Record::OfBinding(b) => Choice {
-            kind: kind_by(4, 5, path),
-            holder: b,
-        },
-        Record::OfSegment(g) => Choice { kind: 6, holder: g },
-        Record::Nowhere => Choice { kind: 6, holder: 0 },
+        Record::OfSchema(_) => Chosen::NoPath,
+        Record::OfType(_) => Chosen::NoPath,
+        Record::OfProperty(p) => only_path(model, at, PathKind::Partner, p, path),
+        Record::OfKey(k) => only_path(model, at, PathKind::Key, k, path),
+        Record::OfConstraint(c) => {
+            one_of_two(model, at, PathKind::Dependent, PathKind::Principal, c, path)
+        }
+        Record::OfChild(_) => Chosen::NoPath,
+        Record::OfBinding(b) => {
+            one_of_two(model, at, PathKind::Binding, PathKind::Target, b, path)
+        }
+        Record::OfSegment(_) => Chosen::NoPath,
+        Record::Nowhere => Chosen::NoPath,
     }
-}
-
-// The segments of the path, and the type at which it starts.
-pub fn path_in(model: &[u8], at: Layout, kind: u16, holder: u16) -> Run
-    requires { ⌜ Laid (now model) at ⌝ }
-    ensures { λ r. ⌜ (r .first ≡ pathOf (modelIn (now (model .entry))) (kindOf kind) holder .first) × (r .count ≡ pathOf (modelIn (now (model .entry))) (kindOf kind) holder .count) × (r .first < 2048) × (r .count < 16) ⌝ }
-{
-    path_of(
-        properties_of(model, at),
-        keys_of(model, at),
-        constraints_of(model, at),
-        bindings_of(model, at),
-        kind,
-        holder,
-    )
-}
-
-pub fn start_in(model: &[u8], at: Layout, kind: u16, holder: u16) -> u16
-    requires { ⌜ Laid (now model) at ⌝ }
-    ensures { λ r. ⌜ r ≡ startOf (modelIn (now (model .entry))) (kindOf kind) holder ⌝ }
-{
-    start_of(
-        properties_of(model, at),
-        keys_of(model, at),
-        constraints_of(model, at),
-        children_of(model, at),
-        bindings_of(model, at),
-        kind,
-        holder,
-    )
 }
 
 // The path of a number of the record at a place.
-pub fn choose(model: &[u8], at: Layout, place: u32, path: u32) -> Choice
+pub fn choose(model: &[u8], at: Layout, place: u32, path: u32) -> Chosen
     requires { ⌜ Laid (now model) at ⌝ }
-    ensures { λ r. ⌜ r ≡ choiceFor (walkPath (now (model .entry)) place path) ⌝ }
+    ensures { λ r. ⌜ r ≡ walkPath (now (model .entry)) place path ⌝ }
 {
     if place >= 65536 {
-        return Choice { kind: 6, holder: 0 };
+        return Chosen::NoPath;
     }
-    let c = kind_in(record_at(at, place as u16), path);
-    if c.kind >= 6 {
-        return Choice { kind: 6, holder: 0 };
+    path_chosen(model, at, record_at(at, place as u16), path)
+}
+
+// The segments of the path, and the type at which it starts.
+pub fn chosen_path(model: &[u8], at: Layout, chosen: Chosen) -> Run
+    requires { ⌜ Laid (now model) at ⌝ }
+    ensures { λ r. ⌜ (r .first ≡ chosenPath (modelIn (now (model .entry))) chosen .first) × (r .count ≡ chosenPath (modelIn (now (model .entry))) chosen .count) × (r .first < 2048) × (r .count < 16) ⌝ }
+{
+    match chosen {
+        Chosen::NoPath => Run { first: 0, count: 0 },
+        Chosen::PathOf { kind, holder } => path_in(model, at, kind, holder),
     }
-    let run = path_in(model, at, c.kind, c.holder);
-    if run.count == 0 {
-        return Choice { kind: 6, holder: 0 };
+}
+
+pub fn chosen_start(model: &[u8], at: Layout, chosen: Chosen) -> u16
+    requires { ⌜ Laid (now model) at ⌝ }
+    ensures { λ r. ⌜ r ≡ chosenStart (modelIn (now (model .entry))) chosen ⌝ }
+{
+    match chosen {
+        Chosen::NoPath => 0,
+        Chosen::PathOf { kind, holder } => start_in(model, at, kind, holder),
     }
-    c
 }
 
 // Rule 27.
-pub fn walk_27(kind: u16, holder: u16) -> bool
-    ensures { λ r. ⌜ r ≡ walk27 (choiceOf kind holder) ⌝ }
+pub fn walk_27(chosen: Chosen) -> bool
+    ensures { λ r. ⌜ r ≡ walk27 chosen ⌝ }
 {
-    !(kind < 6)
+    match chosen {
+        Chosen::NoPath => true,
+        Chosen::PathOf { .. } => false,
+    }
 }
 
 // Rule 28: t is the type at which the path starts, v the start node.

@@ -9,8 +9,8 @@ ghost use Rattle.csdl.specs.Instance.{instanceOf};
 ghost use Rattle.csdl.specs.Find.{ancestorOrSelf};
 ghost use Rattle.csdl.specs.Walk.{slotNamed};
 ghost use Rattle.model_image.specs.Laid.{Laid, typesIn};
-ghost use Rattle.lookup.specs.Sets.{member};
-ghost use Rattle.walk_step.specs.Seen.{hasName, ownRun, slotRun, keptRun, castRun, runAt, itemIn, Ancestors};
+ghost use Rattle.type_hierarchy.specs.Sets.{member};
+ghost use Rattle.walk_step.specs.Seen.{hasName, ownNext, slotNext, keptNext, castNext, nextAt, itemIn, Ancestors};
 ghost use Rattle.model_image.specs.Limits.{FewTypes};
 ghost use Rattle.instance_image.specs.Limits.{FewNodes};
 use instance_image::fields::item_handle;
@@ -19,11 +19,8 @@ use instance_image::fields::node_slots;
 use instance_image::fields::slot_items;
 use instance_image::fields::slot_property;
 use instance_image::fields::slot_state;
-use lookup::ancestors::with_ancestors;
-use lookup::kinds::structured;
 use lookup::texts::property_text;
 use lookup::texts::segment_text;
-use lookup::type_sets::in_set;
 use model_image::layout::Layout;
 use model_image::layout::names_of;
 use model_image::layout::properties_of;
@@ -33,6 +30,9 @@ use model_image::segments::segment_cast;
 use model_image::segments::segment_type;
 use packed::same_bytes;
 use path_resolution::wide::ancestor_or_self;
+use type_hierarchy::ancestors::with_ancestors;
+use type_hierarchy::kinds::structured;
+use type_hierarchy::type_sets::in_set;
 
 // Whether the property of slot s has the name.
 fn has_name(properties: &[u8], names: &[u8], slots: &[u8], name: &[u8], s: u16) -> bool
@@ -82,7 +82,7 @@ pub struct Item {
 }
 
 // What takes the place of an item: a run of the table of items, or one item of its own; how many slots were opened.
-pub struct Run {
+pub struct Next {
     pub opened: u16,
     pub first: u16,
     pub count: u16,
@@ -92,15 +92,15 @@ pub struct Run {
     pub ancestors: u64,
 }
 
-// Item q of a run.
-pub fn item_in(items: &[u8], run: Run, q: u16) -> Item
-    ensures { λ r. ⌜ r ≡ itemIn (now (items .entry)) run q ⌝ }
+// Item q of what comes next.
+pub fn item_in(items: &[u8], next: Next, q: u16) -> Item
+    ensures { λ r. ⌜ r ≡ itemIn (now (items .entry)) next q ⌝ }
 {
-    if run.own {
+    if next.own {
         return Item {
-            t: run.t,
-            v: run.v,
-            ancestors: run.ancestors,
+            t: next.t,
+            v: next.v,
+            ancestors: next.ancestors,
         };
     }
     Item {
@@ -110,11 +110,11 @@ pub fn item_in(items: &[u8], run: Run, q: u16) -> Item
     }
 }
 
-// A run of the one item, or of none.
-fn own_run(opened: u16, count: u16, t: u8, v: u32, ancestors: u64) -> Run
-    ensures { λ r. ⌜ r ≡ ownRun opened count t v ancestors ⌝ }
+// The one item, or none.
+fn own_next(opened: u16, count: u16, t: u8, v: u32, ancestors: u64) -> Next
+    ensures { λ r. ⌜ r ≡ ownNext opened count t v ancestors ⌝ }
 {
-    Run {
+    Next {
         opened: opened,
         first: 0,
         count: count,
@@ -126,17 +126,17 @@ fn own_run(opened: u16, count: u16, t: u8, v: u32, ancestors: u64) -> Run
 }
 
 // What stands in a slot, of which the number plus 1 is given; nothing for 0.
-fn slot_run(slots: &[u8], s: u16) -> Run
-    ensures { λ r. ⌜ r ≡ slotRun (instanceOf [] (now (slots .entry)) []) s ⌝ }
+fn slot_next(slots: &[u8], s: u16) -> Next
+    ensures { λ r. ⌜ r ≡ slotNext (instanceOf [] (now (slots .entry)) []) s ⌝ }
 {
     if s == 0 {
-        return own_run(0, 0, 0, 0, 0);
+        return own_next(0, 0, 0, 0, 0);
     }
     if slot_state(slots, s - 1) == 0 {
-        return own_run(1, 1, 255, 0, 0);
+        return own_next(1, 1, 255, 0, 0);
     }
     let run = slot_items(slots, s - 1);
-    Run {
+    Next {
         opened: 1,
         first: run.first,
         count: run.count,
@@ -159,45 +159,45 @@ fn ancestors_at(types: &[u8], item: Item) -> u64
 }
 
 // A node where it stays, else null.
-fn kept_run(kept: bool, t: u8, v: u32, ancestors: u64) -> Run
-    ensures { λ r. ⌜ r ≡ keptRun kept t v ancestors ⌝ }
+fn kept_next(kept: bool, t: u8, v: u32, ancestors: u64) -> Next
+    ensures { λ r. ⌜ r ≡ keptNext kept t v ancestors ⌝ }
 {
     if kept {
-        return own_run(0, 1, t, v, ancestors);
+        return own_next(0, 1, t, v, ancestors);
     }
-    own_run(0, 1, 255, 0, 0)
+    own_next(0, 1, 255, 0, 0)
 }
 
 // A node at a cast to type c: it stays where it is at c, else null takes its place.
-fn cast_run(types: &[u8], c: u32, item: Item) -> Run
+fn cast_next(types: &[u8], c: u32, item: Item) -> Next
     requires { ⌜ FewTypes (now types) × Ancestors (now types) (item .t) (item .ancestors) ⌝ }
-    ensures { λ r. ⌜ r ≡ castRun (modelOf [] (now (types .entry)) [] [] [] [] [] [] []) c (item .t) (item .v) (r .ancestors) ⌝ }
+    ensures { λ r. ⌜ r ≡ castNext (modelOf [] (now (types .entry)) [] [] [] [] [] [] []) c (item .t) (item .v) (r .ancestors) ⌝ }
     ensures { λ r. ⌜ Ancestors (now (types .entry)) (r .t) (r .ancestors) ⌝ }
 {
     if c >= 64 {
-        return kept_run(ancestor_or_self(types, c, item.t as u32), item.t, item.v, 0);
+        return kept_next(ancestor_or_self(types, c, item.t as u32), item.t, item.v, 0);
     }
     let ancestors = ancestors_at(types, item);
-    kept_run(in_set(ancestors, c as u16), item.t, item.v, ancestors)
+    kept_next(in_set(ancestors, c as u16), item.t, item.v, ancestors)
 }
 
 // What takes the place of the item at segment k.
-pub fn run_of(model: &[u8], at: Layout, nodes: &[u8], slots: &[u8], k: u16, item: Item) -> Run
+pub fn next_of(model: &[u8], at: Layout, nodes: &[u8], slots: &[u8], k: u16, item: Item) -> Next
     requires { ⌜ Laid (now model) at × FewNodes (now nodes) × Ancestors (typesIn (now model)) (item .t) (item .ancestors) ⌝ }
-    ensures { λ r. ⌜ r ≡ runAt (modelIn (now (model .entry))) (instanceOf (now (nodes .entry)) (now (slots .entry)) []) k (item .t) (item .v) (r .ancestors) ⌝ }
+    ensures { λ r. ⌜ r ≡ nextAt (modelIn (now (model .entry))) (instanceOf (now (nodes .entry)) (now (slots .entry)) []) k (item .t) (item .v) (r .ancestors) ⌝ }
     ensures { λ r. ⌜ Ancestors (typesIn (now (model .entry))) (r .t) (r .ancestors) ⌝ }
 {
     let types = types_of(model, at);
     if !structured(types, item.t as u16) {
-        return own_run(0, 0, 0, 0, 0);
+        return own_next(0, 0, 0, 0, 0);
     }
     let segments = segments_of(model, at);
     if segment_cast(segments, k) {
-        return cast_run(types, segment_type(segments, k), item);
+        return cast_next(types, segment_type(segments, k), item);
     }
     let names = names_of(model, at);
     let name = segment_text(segments, names, k);
-    slot_run(
+    slot_next(
         slots,
         slot_named(properties_of(model, at), names, nodes, slots, name, item.v),
     )

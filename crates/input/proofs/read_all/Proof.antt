@@ -4,9 +4,6 @@ use lib.ListN.{length}
 use borrow.Author.Needs.{needs}
 use Rattle.input.proofs.read_all.Statement.{statement}
 use Rattle.input.proofs.read_all.Tie as tie
-use Rattle.input.proofs.read_all.Reads as reads
-use Rattle.input.proofs.read_all.Lts as lts
-use Rattle.input.proofs.read_some.Reads as read-some-reads
 
 abbrev Inv-loop : tie.InvT-loop
 Inv-loop fd image₀ done₀ image done = (done ≤ length image) × (length image ≡ length image₀)
@@ -14,65 +11,23 @@ Inv-loop fd image₀ done₀ image done = (done ≤ length image) × (length ima
 abbrev μ-loop : tie.MeasureT-loop
 μ-loop fd image₀ done₀ image done = length image₀ - done
 
-loop-holds : tie.Need-loop-holds Inv-loop μ-loop
-loop-holds c = search needs
-
-sub-read-some : tie.Need-sub-read-some Inv-loop μ-loop
-sub-read-some c = search needs
-
-part-read-some-start : tie.Need-part-read-some-start Inv-loop μ-loop
-part-read-some-start c = search needs
-
-part-read-some-end : tie.Need-part-read-some-end Inv-loop μ-loop
-part-read-some-end c = search needs
-
-read-some-requires : tie.Need-read-some-requires Inv-loop μ-loop
-read-some-requires c κs = search needs
-
-same-length : tie.Need-same-length Inv-loop μ-loop
-same-length c = search needs
-
-returns : tie.Need-returns Inv-loop μ-loop
-returns c = search needs
-
-same-length-2 : tie.Need-same-length-2 Inv-loop μ-loop
-same-length-2 c = search needs
-
-returns-2 : tie.Need-returns-2 Inv-loop μ-loop
-returns-2 c = search needs
-
-add-done : tie.Need-add-done Inv-loop μ-loop
-add-done c = search needs
-
-loop-less : tie.Need-loop-less Inv-loop μ-loop
-loop-less c = search needs
-
-loop-again : tie.Need-loop-again Inv-loop μ-loop
-loop-again c = search needs
-
-same-length-3 : tie.Need-same-length-3 Inv-loop μ-loop
-same-length-3 c = search needs
-
-returns-3 : tie.Need-returns-3 Inv-loop μ-loop
-returns-3 c = search needs
-
 pub read-all-spec : {M : Type 1} → statement M
 read-all-spec =
     tie.close
     (tie.spec
     Inv-loop
     μ-loop
-    loop-holds
-    sub-read-some
-    part-read-some-start
-    part-read-some-end
-    read-some-requires
-    same-length
-    returns
-    same-length-2
-    returns-2
-    add-done
-    loop-less
-    loop-again
-    same-length-3
-    returns-3)
+    (λ c. search needs)
+    (λ c. search needs)
+    (λ c. search needs)
+    (λ c. search needs)
+    (λ c κs. search needs)
+    (λ c. search needs)
+    (λ c. search needs)
+    (λ c. search needs)
+    (λ c. search needs)
+    (λ c. search needs)
+    (λ c. search needs)
+    (λ c. search needs)
+    (λ c. search needs)
+    (λ c. search needs))

@@ -12,8 +12,8 @@ check-rules-requires c κs = search needs
 enum-told : tie.Need-enum-told
 enum-told c = search needs
 
-check-parts-requires : tie.Need-check-parts-requires
-check-parts-requires c κs = model-passes (c .before .before .before .before .before .args .model .now) _ _ _ (c .before .before .check-rules .ensures) (c .enum-told .given .1) .kept1
+check-20-to-26-requires : tie.Need-check-20-to-26-requires
+check-20-to-26-requires c κs = model-passes (c .before .before .before .before .before .args .model .now) _ _ _ (c .before .before .check-rules .ensures) (c .enum-told .given .1) .kept1
 
 enum-known-answer : tie.Need-enum-known-answer
 enum-known-answer c = search needs
@@ -22,7 +22,7 @@ returns : tie.Need-returns
 unfolding instanceAnswer instanceThen
 returns c =
     let m = c .before .before .before .before .before .before .args .model .now in
-    c .check-parts .ensures ∙ sym (then-on m _ (model-passes m _ _ _ (c .before .before .before .check-rules .ensures) (c .before .enum-told .given .1)))
+    c .check-20-to-26 .ensures ∙ sym (then-on m _ (model-passes m _ _ _ (c .before .before .before .check-rules .ensures) (c .before .enum-told .given .1)))
 
 returns-2 : tie.Need-returns-2
 unfolding instanceAnswer instanceThen instanceMeans
@@ -34,7 +34,7 @@ check-instance-spec =
     (tie.spec
     check-rules-requires
     enum-told
-    check-parts-requires
+    check-20-to-26-requires
     enum-known-answer
     returns
     returns-2)

@@ -3,7 +3,7 @@ use mathlib.Core.Path.{_≡_, refl, sym, _∙_}
 use lib.ListN.{getD}
 use native.Mathlib.Omega.{arith}
 use Rattle.csdl.specs.Climb.{climb}
-use Rattle.lookup.proofs.Climb.{climb-out, climb-none, climb-hit, climb-up}
+use Rattle.type_hierarchy.proofs.Climb.{climb-out, climb-none, climb-hit, climb-up}
 use Rattle.instance_containment.proofs.climbs.Statement.{statement}
 use Rattle.instance_containment.proofs.climbs.Tie as tie
 

@@ -1,11 +1,9 @@
 use borrow.Author.Needs.{needs}
-use Prim.Native.Nat.{ℕ, _<_}
-use mathlib.Core.Path.{_≡_, refl, sym, ap₂, _∙_}
+use mathlib.Core.Path.{refl, sym, ap₂, _∙_}
 use mathlib.Core.Bool.{_||_}
 use native.Mathlib.Omega.{arith}
-use lib.Dec.{ltb}
-use Rattle.instance_values.proofs.Places.{first-same}
-use Rattle.instance_containment.specs.Graph.{nodeIn, entry, timesIn, withinIn, node26In}
+use Rattle.csdl.proofs.Logic.{first-same}
+use Rattle.instance_containment.specs.Graph.{nodeIn, entry, node26In}
 use Rattle.instance_containment.proofs.Bridge.{times-over}
 use Rattle.instance_containment.proofs.Climbing.{once-node}
 use Rattle.instance_containment.proofs.first_within.Statement.{statement}
@@ -19,7 +17,7 @@ returns c =
     let to = entry (a .to .now) in
     let t = c .before .before .before .before .before .held-times in (
       c .first-by-rows .ensures .0
-          ∙ first-same _ _ (a .n) 0
+          ∙ first-same _ _ 0 (a .n)
           (λ w l h. ap₂ _||_ (times-over to (a .c) (t .result) (t .ensures) w (omega (arith, h, s .pre .0))) refl),
       search needs,
     )
@@ -34,7 +32,7 @@ returns-2 c =
     let t = c .before .before .before .before .before .before .held-times in
     let h = c .before .before .holders-of in (
       c .first-by-climbs .ensures .0
-          ∙ first-same _ _ (a .n) 0
+          ∙ first-same _ _ 0 (a .n)
           (λ w l m. once-node from to (t .result) (h .result) (a .c) (a .n) w (omega (arith, m)) (s .pre .0) (s .pre .1) (t .ensures) (h .ensures)
           (sym (c .before .before .before .before .any-twice .ensures) ∙ c .before .before .before .if1 .left)),
       search needs,

@@ -4,8 +4,8 @@ use mathlib.Core.Path.{ap, _∙_}
 use native.Mathlib.Omega.{arith}
 use mathlib.Core.Bool.{not}
 use lib.Dec.{eqb}
-use Rattle.instance_runs.specs.Tables.{Holding}
-use Rattle.csdl.specs.Search.{mark}
+use Rattle.instance_runs.specs.Tables.{Tabulates}
+use Rattle.csdl.specs.Search.{oneIf}
 use Rattle.instance_containment.specs.Graph.{heldRun, entry}
 use Rattle.instance_runs.proofs.Fills.{countIn, count-none, count-down, count-all}
 use Rattle.instance_containment.proofs.Bridge.{times-run}
@@ -13,7 +13,7 @@ use Rattle.instance_containment.proofs.held_times.Statement.{statement}
 use Rattle.instance_containment.proofs.held_times.Tie as tie
 
 abbrev Inv-loop : tie.InvT-loop
-Inv-loop to c array₀ k₀ array k = (k ≤ c) × Holding (countIn (λ u. heldRun (entry to) u) c k) 256 array
+Inv-loop to c array₀ k₀ array k = (k ≤ c) × Tabulates (countIn (λ u. heldRun (entry to) u) c k) 256 array
 
 abbrev μ-loop : tie.MeasureT-loop
 μ-loop to c array₀ k₀ array k = k
@@ -28,7 +28,7 @@ loop-again c =
     let r = c .before .before .before .before .before .read-at .ensures in (
       search needs,
       count-down (λ u. heldRun (entry to) u) (c .before .before .before .before .before .before .before .before .before .args .c) 256 (l .k - 1) (l .k) _ _ (omega arith) (c .before .before .before .less-one .ensures ∙ ap (λ (x : ℕ). x - 1) r)
-          (c .before .before .mark .ensures ∙ ap (λ (x : ℕ). mark (not (eqb x 0))) r) (l .array) (c .before .add-run .last .0) (omega arith) (l .inv .1) (c .before .add-run .ensures),
+          (c .before .before .one-if .ensures ∙ ap (λ (x : ℕ). oneIf (not (eqb x 0))) r) (l .array) (c .before .add-run .last .0) (omega arith) (l .inv .1) (c .before .add-run .ensures),
     )
 
 returns : tie.Need-returns Inv-loop μ-loop

@@ -4,8 +4,8 @@ use mathlib.Core.Path.{ap, _∙_}
 use native.Mathlib.Omega.{arith}
 use mathlib.Core.Bool.{not}
 use lib.Dec.{eqb}
-use Rattle.instance_runs.specs.Tables.{Holding}
-use Rattle.csdl.specs.Search.{mark}
+use Rattle.instance_runs.specs.Tables.{Tabulates}
+use Rattle.csdl.specs.Search.{oneIf}
 use Rattle.instance_containment.specs.Graph.{heldRun, nodeIn, entry}
 use Rattle.instance_runs.proofs.Fills.{latestIn, latest-none, latest-down, latest-all}
 use Rattle.instance_containment.proofs.Bridge.{holder-run}
@@ -13,7 +13,7 @@ use Rattle.instance_containment.proofs.holders_of.Statement.{statement}
 use Rattle.instance_containment.proofs.holders_of.Tie as tie
 
 abbrev Inv-loop : tie.InvT-loop
-Inv-loop slots nodes to c array₀ k₀ array k = (k ≤ c) × Holding (latestIn (λ u. heldRun (entry to) u) (λ u. nodeIn slots nodes u) c k) 256 array
+Inv-loop slots nodes to c array₀ k₀ array k = (k ≤ c) × Tabulates (latestIn (λ u. heldRun (entry to) u) (λ u. nodeIn slots nodes u) c k) 256 array
 
 abbrev μ-loop : tie.MeasureT-loop
 μ-loop slots nodes to c array₀ k₀ array k = k
@@ -29,7 +29,7 @@ loop-again c =
     let r = c .before .before .before .before .before .before .read-at .ensures in (
       search needs,
       latest-down (λ u. heldRun to u) (λ u. nodeIn (a .slots .now) (a .nodes .now) u) (a .c) 256 (l .k - 1) (l .k) _ _ (omega arith)
-          (c .before .before .before .before .less-one .ensures ∙ ap (λ (x : ℕ). x - 1) r) (c .before .before .before .mark .ensures ∙ ap (λ (x : ℕ). mark (not (eqb x 0))) r) (l .array)
+          (c .before .before .before .before .less-one .ensures ∙ ap (λ (x : ℕ). x - 1) r) (c .before .before .before .one-if .ensures ∙ ap (λ (x : ℕ). oneIf (not (eqb x 0))) r) (l .array)
           (c .before .put-run .last .0) (omega arith) _ (c .before .before .node-of .ensures) (l .inv .1) (c .before .put-run .ensures),
     )
 

@@ -9,7 +9,7 @@ use lib.ListN.{length}
 use Rattle.csdl.specs.Tables.{propertyCount}
 use Rattle.csdl.specs.Model.{modelOf}
 use Rattle.csdl.specs.Find.{integral}
-use Rattle.type_names.specs.Wide.{HoldsWide}
+use Rattle.type_names.specs.Wide.{MembersWide}
 use Rattle.type_names.proofs.WideLaws.{wide-none, below-with, below-without, below-none}
 use borrow.Author.Needs.{needs}
 use Rattle.instance_containment.proofs.integrals_of.Statement.{statement}
@@ -18,7 +18,7 @@ use Rattle.instance_containment.proofs.integrals_of.Tie as tie
 abbrev Inv-loop : tie.InvT-loop
 Inv-loop types properties n set₀ p₀ set p =
     (p ≤ n) × (n ≤ 512) × (n ≡ propertyCount properties) × (length types ≤ 384) × (length set ≡ 8)
-    × HoldsWide set 0 (λ q. ltb q p && integral (modelOf [] types properties [] [] [] [] [] []) q)
+    × MembersWide set 0 (λ q. ltb q p && integral (modelOf [] types properties [] [] [] [] [] []) q)
 
 abbrev μ-loop : tie.MeasureT-loop
 μ-loop types properties n set₀ p₀ set p = n - p
@@ -40,7 +40,7 @@ loop-again c =
     let a = c .before .before .before .before .before .before .before .args in
     let test : ℕ → Bool = (λ q. integral (modelOf [] (a .types .now) (a .properties .now) [] [] [] [] [] []) q) in
     let e = c .before .integral .ensures in
-    let s : (length (c .if1 .set) ≡ 8) × HoldsWide (c .if1 .set) 0 (λ q. ltb q (l .p + 1) && test q) =
+    let s : (length (c .if1 .set) ≡ 8) × MembersWide (c .if1 .set) 0 (λ q. ltb q (l .p + 1) && test q) =
     ⊎-elim
     (λ w. rw (w .2) (w .1 .ensures .0, λ q h. w .1 .ensures .1 q h ∙ rw (l .inv .5 q h) (below-with test (l .p) q (sym e ∙ w .0 .taken))))
     (λ w. rw (w .1) (l .inv .4, λ q h. l .inv .5 q h ∙ below-without test (l .p) q (sym e ∙ w .0 .left)))

@@ -60,12 +60,12 @@ first-14-requires c κs =
     let l = opened (p .0) in
     (p .0, p .1, can-resolve l (rw (c .before .match .keys12) at (p .4)), omega (arith, few-segments l, p .6))
 
-placed-requires : tie.Need-placed-requires
-placed-requires c κs = let l = opened (c .before .before .before .before .before .before .before .before .pre .0) in (few-places l segment-table, few-found _ (c .before .before .first-14 .ensures .0) (few-segments l))
+place-found-requires : tie.Need-place-found-requires
+place-found-requires c κs = let l = opened (c .before .before .before .before .before .before .before .before .pre .0) in (few-places l segment-table, few-found _ (c .before .before .first-14 .ensures .0) (few-segments l))
 
 returns-12 : tie.Need-returns-12
 unfolding ruleNo
-returns-12 c = (rw (c .before .before .before .before .before .match .keys12) (lowest-14 (opened (c .before .before .before .before .before .before .before .before .before .pre .0)) (c .before .before .before .first-14 .ensures .0) (c .placed .ensures)), λ h. c .before .before .before .first-14 .ensures .1 .0)
+returns-12 c = (rw (c .before .before .before .before .before .match .keys12) (lowest-14 (opened (c .before .before .before .before .before .before .before .before .before .pre .0)) (c .before .before .before .first-14 .ensures .0) (c .place-found .ensures)), λ h. c .before .before .before .first-14 .ensures .1 .0)
 
 returns-13 : tie.Need-returns-13
 unfolding ruleNo
@@ -124,7 +124,7 @@ lowest-spec =
     (λ c κs. search needs)
     (λ c κs. search needs)
     first-14-requires
-    placed-requires
+    place-found-requires
     lowest-15-requires
     lowest-16-requires
     lowest-17-requires

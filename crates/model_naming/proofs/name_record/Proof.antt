@@ -6,9 +6,9 @@ use Rattle.model_naming.proofs.name_record.Tie as tie
 
 returns : tie.Need-returns
 returns c =
-    let n = c .before .name-place .ensures in
-    let e = rw (n .0, n .1) at (c .cut .ensures) in
+    let n = c .before .before .name-place .ensures in
+    let e = rw (n .0, n .1) at (c .part-of .ensures) in
     (e, e ∙ name-bytes _ _)
 
 pub name-record-spec : {M : Type 1} → statement M
-name-record-spec = tie.close (tie.spec (λ c κs. search needs) (λ c κs. search needs) returns)
+name-record-spec = tie.close (tie.spec (λ c κs. search needs) (λ c. search needs) (λ c κs. search needs) returns)

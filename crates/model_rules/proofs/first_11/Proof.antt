@@ -1,6 +1,9 @@
 use borrow.Author.Needs.{needs}
-use Prim.Native.Nat.{_-_}
-use mathlib.Core.List.{[]}
+use Prim.Native.Nat.{ℕ, _-_}
+use mathlib.Core.Path.{sym, ap, _∙_}
+use mathlib.Core.List.{List, []}
+use lib.ListN.{length}
+use Rattle.type_hierarchy.proofs.AncestorSets.{rows-size}
 use Rattle.csdl.specs.Model.{modelOf}
 use Rattle.csdl.specs.Properties.{property11}
 use Rattle.csdl.proofs.Loops.{First, first-start, first-hit, first-next, first-end}
@@ -9,19 +12,25 @@ use Rattle.model_rules.proofs.first_11.Statement.{statement}
 use Rattle.model_rules.proofs.first_11.Tie as tie
 
 abbrev Inv-loop : tie.InvT-loop
-Inv-loop types properties names index n p₀ p = First (λ p. property11 (modelOf [] types properties [] [] [] [] [] names) p) n p
+Inv-loop types properties names index n ancestors p₀ p = First (λ p. property11 (modelOf [] types properties [] [] [] [] [] names) p) n p
 
 abbrev μ-loop : tie.MeasureT-loop
-μ-loop types properties names index n p₀ p = n - p
+μ-loop types properties names index n ancestors p₀ p = n - p
+
+slice-aggregate-property-11 : tie.Need-slice-aggregate-property-11 Inv-loop μ-loop
+slice-aggregate-property-11 c = sym (ap (λ (l : List ℕ). length l) (c .before .before .before .all-ancestors .ensures) ∙ rows-size _ _)
+
+property-11-requires : tie.Need-property-11-requires Inv-loop μ-loop
+property-11-requires c κs = search needs
 
 returns : tie.Need-returns Inv-loop μ-loop
-returns c = rw (← c .before .before .before .before .property-count .ensures .0) (first-hit _ _ _ _ (c .before .before .before .loop .inv) (c .before .before .loop-test .taken) (c .before .property-11 .ensures) (c .if1 .taken))
+returns c = rw (← c .before .before .before .before .before .before .property-count .ensures .0) (first-hit _ _ _ _ (c .before .before .before .before .loop .inv) (c .before .before .before .loop-test .taken) (c .before .property-11 .ensures) (c .if1 .taken))
 
 loop-again : tie.Need-loop-again Inv-loop μ-loop
-loop-again c = first-next _ _ _ _ (c .before .before .before .loop .inv) (c .before .before .loop-test .taken) (c .before .property-11 .ensures) (c .if1 .left)
+loop-again c = first-next _ _ _ _ (c .before .before .before .before .loop .inv) (c .before .before .before .loop-test .taken) (c .before .property-11 .ensures) (c .if1 .left)
 
 returns-2 : tie.Need-returns-2 Inv-loop μ-loop
-returns-2 c = rw (← c .before .before .property-count .ensures .0) (first-end _ _ _ (c .before .loop .inv) (omega arith))
+returns-2 c = rw (← c .before .before .before .property-count .ensures .0) (first-end _ _ _ (c .before .loop .inv) (omega arith))
 
 pub first-11-spec : {M : Type 1} → statement M
 first-11-spec =
@@ -30,8 +39,10 @@ first-11-spec =
     Inv-loop
     μ-loop
     (λ c κs. search needs)
-    (λ c. first-start _ _)
     (λ c κs. search needs)
+    (λ c. first-start _ _)
+    slice-aggregate-property-11
+    property-11-requires
     (λ c. search needs)
     returns
     (λ c. search needs)

@@ -12,14 +12,14 @@ use borrow.Author.Needs.{needs}
 use Rattle.model_rules.proofs.lowest_10.Statement.{statement}
 use Rattle.model_rules.proofs.lowest_10.Tie as tie
 
-placed-requires : tie.Need-placed-requires
-placed-requires c κs = (few-places (opened (c .before .before .before .before .pre)) property-table, few-found _ (c .first-10 .ensures) (omega (arith, c .before .properties-of .ensures .1)))
+place-found-requires : tie.Need-place-found-requires
+place-found-requires c κs = (few-places (opened (c .before .before .before .before .pre)) property-table, few-found _ (c .first-10 .ensures) (omega (arith, c .before .properties-of .ensures .1)))
 
 returns : tie.Need-returns
 unfolding lowestPlace property10 isStream ofKind structured modelIn modelOf
 returns c =
     let m = modelIn (c .before .before .before .before .before .args .image .now) in
-    lowest-in (opened (c .before .before .before .before .before .pre)) property-table (λ k. property10 m k) (rw (c .before .before .before .types-of .ensures .0, c .before .before .properties-of .ensures .0) at (c .before .first-10 .ensures)) (c .placed .ensures)
+    lowest-in (opened (c .before .before .before .before .before .pre)) property-table (λ k. property10 m k) (rw (c .before .before .before .types-of .ensures .0, c .before .before .properties-of .ensures .0) at (c .before .first-10 .ensures)) (c .place-found .ensures)
 
 pub lowest-10-spec : {M : Type 1} → statement M
 lowest-10-spec =
@@ -28,5 +28,5 @@ lowest-10-spec =
     (λ c κs. search needs)
     (λ c κs. search needs)
     (λ c κs. search needs)
-    placed-requires
+    place-found-requires
     returns)

@@ -16,14 +16,14 @@ use Rattle.model_rules.proofs.lowest_11.Tie as tie
 first-11-requires : tie.Need-first-11-requires
 first-11-requires c κs = (c .before .before .types-of .ensures .1, c .before .properties-of .ensures .1, index-in _ (c .before .before .before .before .before .pre .1) (c .before .properties-of .ensures .0) (c .names-of .ensures))
 
-placed-requires : tie.Need-placed-requires
-placed-requires c κs = (few-places (opened (c .before .before .before .before .before .before .pre .0)) property-table, few-found _ (c .first-11 .ensures) (omega (arith, c .before .before .properties-of .ensures .1)))
+place-found-requires : tie.Need-place-found-requires
+place-found-requires c κs = (few-places (opened (c .before .before .before .before .before .before .pre .0)) property-table, few-found _ (c .first-11 .ensures) (omega (arith, c .before .before .properties-of .ensures .1)))
 
 returns : tie.Need-returns
 unfolding lowestPlace property11 property11a property11b sameName redeclares ancestor modelIn modelOf
 returns c =
     let m = modelIn (c .before .before .before .before .before .before .before .args .image .now) in
-    lowest-in (opened (c .before .before .before .before .before .before .before .pre .0)) property-table (λ k. property11 m k) (rw (c .before .before .before .before .types-of .ensures .0, c .before .before .before .properties-of .ensures .0, c .before .before .names-of .ensures) at (c .before .first-11 .ensures)) (c .placed .ensures)
+    lowest-in (opened (c .before .before .before .before .before .before .before .pre .0)) property-table (λ k. property11 m k) (rw (c .before .before .before .before .types-of .ensures .0, c .before .before .before .properties-of .ensures .0, c .before .before .names-of .ensures) at (c .before .first-11 .ensures)) (c .place-found .ensures)
 
 pub lowest-11-spec : {M : Type 1} → statement M
 lowest-11-spec =
@@ -33,5 +33,5 @@ lowest-11-spec =
     (λ c κs. search needs)
     (λ c κs. search needs)
     first-11-requires
-    placed-requires
+    place-found-requires
     returns)

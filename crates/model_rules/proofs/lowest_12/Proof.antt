@@ -12,14 +12,14 @@ use borrow.Author.Needs.{needs}
 use Rattle.model_rules.proofs.lowest_12.Statement.{statement}
 use Rattle.model_rules.proofs.lowest_12.Tie as tie
 
-placed-requires : tie.Need-placed-requires
-placed-requires c κs = (few-places (opened (c .before .before .before .before .pre)) type-table, few-found _ (c .first-12 .ensures) (omega (arith, c .before .before .types-of .ensures .1)))
+place-found-requires : tie.Need-place-found-requires
+place-found-requires c κs = (few-places (opened (c .before .before .before .before .pre)) type-table, few-found _ (c .first-12 .ensures) (omega (arith, c .before .before .types-of .ensures .1)))
 
 returns : tie.Need-returns
 unfolding lowestPlace type12 requiredStep required ofKind ancestor ancestorOrSelf complexStep containStep integral modelIn modelOf
 returns c =
     let m = modelIn (c .before .before .before .before .before .args .image .now) in
-    lowest-in (opened (c .before .before .before .before .before .pre)) type-table (λ k. type12 m k) (rw (c .before .before .before .types-of .ensures .0, c .before .before .properties-of .ensures .0) at (c .before .first-12 .ensures)) (c .placed .ensures)
+    lowest-in (opened (c .before .before .before .before .before .pre)) type-table (λ k. type12 m k) (rw (c .before .before .before .types-of .ensures .0, c .before .before .properties-of .ensures .0) at (c .before .first-12 .ensures)) (c .place-found .ensures)
 
 pub lowest-12-spec : {M : Type 1} → statement M
 lowest-12-spec =
@@ -28,5 +28,5 @@ lowest-12-spec =
     (λ c κs. search needs)
     (λ c κs. search needs)
     (λ c κs. search needs)
-    placed-requires
+    place-found-requires
     returns)

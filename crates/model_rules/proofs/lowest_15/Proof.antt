@@ -15,14 +15,14 @@ use Rattle.model_rules.proofs.lowest_15.Tie as tie
 first-15-requires : tie.Need-first-15-requires
 first-15-requires c κs = (c .before .before .before .before .types-of .ensures .1, c .before .before .before .properties-of .ensures .1, c .before .before .keys-of .ensures .1, index-in _ (c .before .before .before .before .before .before .before .before .pre .1) (c .before .before .before .properties-of .ensures .0) (c .names-of .ensures))
 
-placed-requires : tie.Need-placed-requires
-placed-requires c κs = (few-places (opened (c .before .before .before .before .before .before .before .before .before .pre .0)) key-table, few-found _ (c .first-15 .ensures) (omega (arith, c .before .before .before .keys-of .ensures .1)))
+place-found-requires : tie.Need-place-found-requires
+place-found-requires c κs = (few-places (opened (c .before .before .before .before .before .before .before .before .before .pre .0)) key-table, few-found _ (c .first-15 .ensures) (omega (arith, c .before .before .before .keys-of .ensures .1)))
 
 returns : tie.Need-returns
 unfolding lowestPlace
 returns c =
     let m = modelIn (c .before .before .before .before .before .before .before .before .before .before .args .image .now) in
-    lowest-in (opened (c .before .before .before .before .before .before .before .before .before .before .pre .0)) key-table (λ k. key15 m k) (keys-15 (opened (c .before .before .before .before .before .before .before .before .before .before .pre .0)) (c .before .before .before .before .before .before .before .before .before .before .pre .2) (rw (c .before .before .before .before .before .before .types-of .ensures .0, c .before .before .before .before .before .properties-of .ensures .0, c .before .before .before .before .keys-of .ensures .0, c .before .before .before .segments-of .ensures .0, c .before .before .names-of .ensures) at (c .before .first-15 .ensures))) (c .placed .ensures)
+    lowest-in (opened (c .before .before .before .before .before .before .before .before .before .before .pre .0)) key-table (λ k. key15 m k) (keys-15 (opened (c .before .before .before .before .before .before .before .before .before .before .pre .0)) (c .before .before .before .before .before .before .before .before .before .before .pre .2) (rw (c .before .before .before .before .before .before .types-of .ensures .0, c .before .before .before .before .before .properties-of .ensures .0, c .before .before .before .before .keys-of .ensures .0, c .before .before .before .segments-of .ensures .0, c .before .before .names-of .ensures) at (c .before .first-15 .ensures))) (c .place-found .ensures)
 
 pub lowest-15-spec : {M : Type 1} → statement M
 lowest-15-spec =
@@ -34,5 +34,5 @@ lowest-15-spec =
     (λ c κs. search needs)
     (λ c κs. search needs)
     first-15-requires
-    placed-requires
+    place-found-requires
     returns)

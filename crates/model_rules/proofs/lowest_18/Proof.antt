@@ -15,11 +15,11 @@ use borrow.Author.Needs.{needs}
 use Rattle.model_rules.proofs.lowest_18.Statement.{statement}
 use Rattle.model_rules.proofs.lowest_18.Tie as tie
 
-placed-requires : tie.Need-placed-requires
-placed-requires c κs = (few-places (opened (c .before .before .before .before .before .pre)) property-table, few-found _ (c .first-property-18 .ensures) (omega (arith, c .before .properties-of .ensures .1)))
+place-found-requires : tie.Need-place-found-requires
+place-found-requires c κs = (few-places (opened (c .before .before .before .before .before .pre)) property-table, few-found _ (c .first-property-18 .ensures) (omega (arith, c .before .properties-of .ensures .1)))
 
-placed-requires-2 : tie.Need-placed-requires-2
-placed-requires-2 c κs = (few-places (opened (c .before .before .before .before .before .before .before .before .pre)) child-table, few-found _ (c .first-child-18 .ensures) (omega (arith, c .before .children-of .ensures .1)))
+place-found-requires-2 : tie.Need-place-found-requires-2
+place-found-requires-2 c κs = (few-places (opened (c .before .before .before .before .before .before .before .before .pre)) child-table, few-found _ (c .first-child-18 .ensures) (omega (arith, c .before .children-of .ensures .1)))
 
 returns : tie.Need-returns
 unfolding lowestPlace rule18 property18a child18 hasKey ancestorOrSelf ancestor top ofKind modelIn modelOf
@@ -30,8 +30,8 @@ returns c =
     let k = c .before .before .before .before .before .before .before .keys-of .ensures .0 in
     c .earlier .ensures
     ∙ ap₂ (λ a b. orElse a b)
-    (lowest-in l property-table (λ k. property18a m k) (rw (t, c .before .before .before .before .before .before .properties-of .ensures .0, k) at (c .before .before .before .before .before .first-property-18 .ensures)) (c .before .before .before .before .placed .ensures))
-    (lowest-in l child-table (λ k. child18 m k) (rw (t, k, c .before .before .before .children-of .ensures .0) at (c .before .before .first-child-18 .ensures)) (c .before .placed2 .ensures))
+    (lowest-in l property-table (λ k. property18a m k) (rw (t, c .before .before .before .before .before .before .properties-of .ensures .0, k) at (c .before .before .before .before .before .first-property-18 .ensures)) (c .before .before .before .before .place-found .ensures))
+    (lowest-in l child-table (λ k. child18 m k) (rw (t, k, c .before .before .before .children-of .ensures .0) at (c .before .before .first-child-18 .ensures)) (c .before .place-found2 .ensures))
     ∙ tables-lowest m property-table child-table (λ k. property18a m k) (λ k. child18 m k) (properties-before m)
 
 pub lowest-18-spec : {M : Type 1} → statement M
@@ -42,9 +42,9 @@ lowest-18-spec =
     (λ c κs. search needs)
     (λ c κs. search needs)
     (λ c κs. search needs)
-    placed-requires
+    place-found-requires
     (λ c κs. search needs)
     (λ c κs. search needs)
-    placed-requires-2
+    place-found-requires-2
     (λ c κs. search needs)
     returns)

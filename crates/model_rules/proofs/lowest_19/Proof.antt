@@ -11,14 +11,14 @@ use borrow.Author.Needs.{needs}
 use Rattle.model_rules.proofs.lowest_19.Statement.{statement}
 use Rattle.model_rules.proofs.lowest_19.Tie as tie
 
-placed-requires : tie.Need-placed-requires
-placed-requires c κs = (few-places (opened (c .before .before .before .before .before .before .before .before .before .pre .0)) binding-table, few-found _ (c .first-19 .ensures) (omega (arith, c .before .before .before .bindings-of .ensures .1)))
+place-found-requires : tie.Need-place-found-requires
+place-found-requires c κs = (few-places (opened (c .before .before .before .before .before .before .before .before .before .pre .0)) binding-table, few-found _ (c .first-19 .ensures) (omega (arith, c .before .before .before .bindings-of .ensures .1)))
 
 returns : tie.Need-returns
 unfolding lowestPlace
 returns c =
     let m = modelIn (c .before .before .before .before .before .before .before .before .before .before .args .image .now) in
-    lowest-in (opened (c .before .before .before .before .before .before .before .before .before .before .pre .0)) binding-table (λ k. binding19 m k) (bindings-19 (opened (c .before .before .before .before .before .before .before .before .before .before .pre .0)) (c .before .before .before .before .before .before .before .before .before .before .pre .1) (rw (c .before .before .before .before .before .before .before .types-of .ensures .0, c .before .before .before .before .before .before .properties-of .ensures .0, c .before .before .before .before .before .children-of .ensures .0, c .before .before .before .before .bindings-of .ensures .0, c .before .before .before .segments-of .ensures .0, c .before .before .names-of .ensures) at (c .before .first-19 .ensures))) (c .placed .ensures)
+    lowest-in (opened (c .before .before .before .before .before .before .before .before .before .before .pre .0)) binding-table (λ k. binding19 m k) (bindings-19 (opened (c .before .before .before .before .before .before .before .before .before .before .pre .0)) (c .before .before .before .before .before .before .before .before .before .before .pre .1) (rw (c .before .before .before .before .before .before .before .types-of .ensures .0, c .before .before .before .before .before .before .properties-of .ensures .0, c .before .before .before .before .before .children-of .ensures .0, c .before .before .before .before .bindings-of .ensures .0, c .before .before .before .segments-of .ensures .0, c .before .before .names-of .ensures) at (c .before .first-19 .ensures))) (c .place-found .ensures)
 
 pub lowest-19-spec : {M : Type 1} → statement M
 lowest-19-spec =
@@ -31,5 +31,5 @@ lowest-19-spec =
     (λ c κs. search needs)
     (λ c κs. search needs)
     (λ c κs. search needs)
-    placed-requires
+    place-found-requires
     returns)

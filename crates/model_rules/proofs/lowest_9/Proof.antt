@@ -12,14 +12,14 @@ use borrow.Author.Needs.{needs}
 use Rattle.model_rules.proofs.lowest_9.Statement.{statement}
 use Rattle.model_rules.proofs.lowest_9.Tie as tie
 
-placed-requires : tie.Need-placed-requires
-placed-requires c κs = (few-places (opened (c .before .before .before .pre)) type-table, few-found _ (c .first-9 .ensures) (omega (arith, c .before .types-of .ensures .1)))
+place-found-requires : tie.Need-place-found-requires
+place-found-requires c κs = (few-places (opened (c .before .before .before .pre)) type-table, few-found _ (c .first-9 .ensures) (omega (arith, c .before .types-of .ensures .1)))
 
 returns : tie.Need-returns
 unfolding lowestPlace type9 ancestor modelIn modelOf
 returns c =
     let m = modelIn (c .before .before .before .before .args .image .now) in
-    lowest-in (opened (c .before .before .before .before .pre)) type-table (λ k. type9 m k) (rw (c .before .before .types-of .ensures .0) at (c .before .first-9 .ensures)) (c .placed .ensures)
+    lowest-in (opened (c .before .before .before .before .pre)) type-table (λ k. type9 m k) (rw (c .before .before .types-of .ensures .0) at (c .before .first-9 .ensures)) (c .place-found .ensures)
 
 pub lowest-9-spec : {M : Type 1} → statement M
 lowest-9-spec =
@@ -27,5 +27,5 @@ lowest-9-spec =
     (tie.spec
     (λ c κs. search needs)
     (λ c κs. search needs)
-    placed-requires
+    place-found-requires
     returns)

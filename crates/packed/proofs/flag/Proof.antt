@@ -5,7 +5,7 @@ use Rattle.packed.proofs.flag.Tie as tie
 
 returns : tie.Need-returns
 unfolding flagOf
-returns c = cc
+returns c = rw (c .field .ensures .0)
 
 pub flag-spec : {M : Type 1} → statement M
 flag-spec = tie.close (tie.spec (λ c κs. search needs) returns)

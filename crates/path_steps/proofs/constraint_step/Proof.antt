@@ -6,7 +6,7 @@ use Rattle.path_steps.proofs.constraint_step.Tie as tie
 
 returns : tie.Need-returns
 unfolding modelOf constraintStep
-returns c = cc
+returns c = rw (c .complex-step .ensures, c .before .property-collection .ensures)
 
 pub constraint-step-spec : {M : Type 1} → statement M
 constraint-step-spec =

@@ -7,7 +7,7 @@ use Rattle.path_steps.proofs.key_end.Tie as tie
 
 returns : tie.Need-returns
 unfolding modelOf keyEnd keyType ofKind
-returns c = cc
+returns c = rw (c .key-type .ensures, c .before .property-type-ref .ensures .0, c .before .before .property-nullable .ensures, c .before .before .before .property-collection .ensures)
 
 pub key-end-spec : {M : Type 1} → statement M
 key-end-spec =

@@ -6,7 +6,7 @@ use Rattle.path_steps.proofs.key_step.Tie as tie
 
 returns : tie.Need-returns
 unfolding modelOf keyStep
-returns c = cc
+returns c = rw (c .complex-step .ensures, c .before .property-nullable .ensures, c .before .before .property-collection .ensures)
 
 pub key-step-spec : {M : Type 1} → statement M
 key-step-spec =

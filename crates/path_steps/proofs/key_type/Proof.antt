@@ -6,7 +6,7 @@ use Rattle.path_steps.proofs.key_type.Tie as tie
 
 returns : tie.Need-returns
 unfolding modelOf keyType
-returns c = cc
+returns c = rw (c .key-code2 .ensures, c .before .type-underlying .ensures .0, c .before .before .of-kind2 .ensures, c .before .before .before .key-code .ensures, c .before .before .before .before .less-64 .ensures, c .before .before .before .before .before .of-kind .ensures)
 
 pub key-type-spec : {M : Type 1} → statement M
 key-type-spec =

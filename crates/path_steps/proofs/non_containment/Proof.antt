@@ -6,7 +6,7 @@ use Rattle.path_steps.proofs.non_containment.Tie as tie
 
 returns : tie.Need-returns
 unfolding modelOf nonContainment
-returns c = cc
+returns c = rw (c .property-contains .ensures, c .before .property-navigation .ensures)
 
 pub non-containment-spec : {M : Type 1} → statement M
 non-containment-spec =

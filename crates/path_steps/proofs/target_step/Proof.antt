@@ -7,7 +7,7 @@ use Rattle.path_steps.proofs.target_step.Tie as tie
 
 returns : tie.Need-returns
 unfolding modelOf targetStep containStep
-returns c = cc
+returns c = rw (c .contain-step .ensures, c .before .complex-step .ensures, c .before .before .property-collection .ensures)
 
 pub target-step-spec : {M : Type 1} → statement M
 target-step-spec =

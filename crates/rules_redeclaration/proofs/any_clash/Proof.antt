@@ -6,7 +6,7 @@ use lib.ListN.{length}
 use Rattle.csdl.specs.Tables.{propertyCount, propertyTypeRef}
 use Rattle.csdl.specs.Model.{modelOf}
 use Rattle.csdl.specs.Find.{ancestor}
-use Rattle.lookup.specs.Sets.{Holds}
+use Rattle.type_hierarchy.specs.Sets.{Members}
 use Rattle.csdl.proofs.Logic.{any-of}
 use Rattle.name_classes.specs.Classes.{nameOf}
 use Rattle.lookup.specs.Index.{Indexed}
@@ -19,7 +19,7 @@ use Rattle.rules_redeclaration.proofs.any_clash.Statement.{statement}
 use Rattle.rules_redeclaration.proofs.any_clash.Tie as tie
 
 abbrev Inv-loop : tie.InvT-loop
-Inv-loop types properties names index above ancestors p at₀ at = (x : Indexed properties names index) × Searched properties names (nameOf properties names p) index x (λ q. clash (modelOf [] types properties [] [] [] [] [] names) above p q) (λ q h. clash-named types properties names p q h above) at × (propertyCount properties ≤ 512) × (length types ≤ 384) × Holds 64 ancestors (λ u. ancestor (modelOf [] types [] [] [] [] [] [] []) u (propertyTypeRef properties p))
+Inv-loop types properties names index above ancestors p at₀ at = (x : Indexed properties names index) × Searched properties names (nameOf properties names p) index x (λ q. clash (modelOf [] types properties [] [] [] [] [] names) above p q) (λ q h. clash-named types properties names p q h above) at × (propertyCount properties ≤ 512) × (length types ≤ 384) × Members 64 ancestors (λ u. ancestor (modelOf [] types [] [] [] [] [] [] []) u (propertyTypeRef properties p))
 
 abbrev μ-loop : tie.MeasureT-loop
 μ-loop types properties names index above ancestors p at₀ at = remaining (propertyCount properties) at

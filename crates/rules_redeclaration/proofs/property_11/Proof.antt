@@ -11,7 +11,7 @@ use Rattle.rules_redeclaration.proofs.property_11.Tie as tie
 returns : tie.Need-returns
 unfolding rules.property11
 returns c =
-    let a = c .before .before .before .before .before .before .args in
+    let a = c .before .before .before .before .before .before .before .args in
     let e : rules.property11a (modelOf [] (a .types .now) (a .properties .now) [] [] [] [] [] (a .names .now)) (a .p) ≡ true =
     sym (property-11a-frame [] (a .types .now) (a .properties .now) [] [] [] [] [] (a .names .now) (a .p)) ∙ sym (c .before .declared-before .ensures) ∙ c .if1 .taken in
     rw e
@@ -19,7 +19,7 @@ returns c =
 returns-2 : tie.Need-returns-2
 unfolding rules.property11
 returns-2 c =
-    let a = c .before .before .before .before .before .before .before .args in
+    let a = c .before .before .before .before .before .before .before .before .args in
     let e : rules.property11a (modelOf [] (a .types .now) (a .properties .now) [] [] [] [] [] (a .names .now)) (a .p) ≡ false =
     sym (property-11a-frame [] (a .types .now) (a .properties .now) [] [] [] [] [] (a .names .now) (a .p)) ∙ sym (c .before .before .declared-before .ensures) ∙ c .before .if1 .left in
     rw e (c .wrongly-redeclared .ensures)

@@ -5,7 +5,7 @@ use Rattle.packed.proofs.Laws.{field-lt}
 use Rattle.csdl.specs.Search.{anyFrom}
 use Rattle.csdl.specs.Model.{modelOf}
 use Rattle.csdl.specs.Find.{ancestor}
-use Rattle.lookup.specs.Sets.{member}
+use Rattle.type_hierarchy.specs.Sets.{member}
 use Rattle.rules_redeclaration.specs.Clashes.{clash}
 use Rattle.rules_redeclaration.proofs.Any.{clash-any, clash-none}
 use borrow.Author.Needs.{needs}
@@ -15,14 +15,14 @@ use Rattle.rules_redeclaration.proofs.wrongly_redeclared.Tie as tie
 property-owner-requires : tie.Need-property-owner-requires
 property-owner-requires c κs = search needs
 
-ancestors-of-requires : tie.Need-ancestors-of-requires
-ancestors-of-requires c κs = search needs
+ancestors-at-requires : tie.Need-ancestors-at-requires
+ancestors-at-requires c κs = search needs
 
 returns : tie.Need-returns
 unfolding modelOf ancestor
 returns c =
-    let a = c .before .before .before .before .before .before .before .args in
-    let above = c .before .ancestors-of in
+    let a = c .before .before .before .before .before .before .before .before .args in
+    let above = c .before .ancestors-at in
     let m = modelOf [] (a .types .now) (a .properties .now) [] [] [] [] [] (a .names .now) in
     let all : (q : ℕ) → member (above .result) (m .owner q) ≡ ancestor m (m .owner q) (m .owner (a .p)) =
     λ q. rw (← c .before .before .property-owner .ensures .0) (above .ensures (m .owner q) (field-lt (a .properties .now) (56 * q) 6)) in
@@ -31,17 +31,17 @@ returns c =
 property-type-ref-requires : tie.Need-property-type-ref-requires
 property-type-ref-requires c κs = search needs
 
-ancestors-of-requires-2 : tie.Need-ancestors-of-requires-2
-ancestors-of-requires-2 c κs = search needs
+ancestors-at-requires-2 : tie.Need-ancestors-at-requires-2
+ancestors-at-requires-2 c κs = search needs
 
 any-clash-requires : tie.Need-any-clash-requires
-any-clash-requires c κs = let s = c .before .before .before .before .before .before .before .before .before .pre in (s .0, s .1, s .2, λ u h. rw (← c .before .property-type-ref .ensures .0) (c .ancestors-of2 .ensures u h), s .3)
+any-clash-requires c κs = let s = c .before .before .before .before .before .before .before .before .before .before .pre in (s .0, s .1, s .2, λ u h. rw (← c .before .property-type-ref .ensures .0) (c .ancestors-at2 .ensures u h), s .3)
 
 returns-2 : tie.Need-returns-2
 unfolding modelOf ancestor
 returns-2 c =
-    let a = c .before .before .before .before .before .before .before .before .before .before .args in
-    let above = c .before .before .before .before .ancestors-of in
+    let a = c .before .before .before .before .before .before .before .before .before .before .before .args in
+    let above = c .before .before .before .before .ancestors-at in
     let m = modelOf [] (a .types .now) (a .properties .now) [] [] [] [] [] (a .names .now) in
     let all : (q : ℕ) → member (above .result) (m .owner q) ≡ ancestor m (m .owner q) (m .owner (a .p)) =
     λ q. rw (← c .before .before .before .before .before .property-owner .ensures .0) (above .ensures (m .owner q) (field-lt (a .properties .now) (56 * q) 6)) in
@@ -52,9 +52,9 @@ wrongly-redeclared-spec =
     tie.close
     (tie.spec
     property-owner-requires
-    ancestors-of-requires
+    ancestors-at-requires
     returns
     property-type-ref-requires
-    ancestors-of-requires-2
+    ancestors-at-requires-2
     any-clash-requires
     returns-2)

@@ -5,21 +5,6 @@ use borrow.Author.Needs.{needs}
 use Rattle.sheet.proofs.first_line.Statement.{statement}
 use Rattle.sheet.proofs.first_line.Tie as tie
 
-check-requires : tie.Need-check-requires
-check-requires c κs = search needs
-
-enum-known-answer : tie.Need-enum-known-answer
-enum-known-answer c = search needs
-
-accepted-line-requires : tie.Need-accepted-line-requires
-accepted-line-requires c κs = search needs
-
-enum-known-answer-2 : tie.Need-enum-known-answer-2
-enum-known-answer-2 c = search needs
-
-refused-line-requires : tie.Need-refused-line-requires
-refused-line-requires c κs = search needs
-
 returns : tie.Need-returns
 returns c =
     let means = c .before .before .before .before .before .check .ensures in
@@ -36,10 +21,10 @@ pub first-line-spec : {M : Type 1} → statement M
 first-line-spec =
     tie.close
     (tie.spec
-    check-requires
-    enum-known-answer
-    accepted-line-requires
-    enum-known-answer-2
-    refused-line-requires
+    (λ c κs. search needs)
+    (λ c. search needs)
+    (λ c κs. search needs)
+    (λ c. search needs)
+    (λ c κs. search needs)
     returns
     returns-2)

@@ -8,23 +8,8 @@ use borrow.Author.Needs.{needs}
 use Rattle.sheet.proofs.mark_sheet.Statement.{statement}
 use Rattle.sheet.proofs.mark_sheet.Tie as tie
 
-slice-aggregate-check : tie.Need-slice-aggregate-check
-slice-aggregate-check c = search needs
-
-check-requires : tie.Need-check-requires
-check-requires c κs = search needs
-
-enum-known-answer : tie.Need-enum-known-answer
-enum-known-answer c = search needs
-
-accepted-line-requires : tie.Need-accepted-line-requires
-accepted-line-requires c κs = search needs
-
 layout-of-requires : tie.Need-layout-of-requires
 layout-of-requires c κs = layout _ (keeps-1 _ _ (c .before .before .before .before .before .before .check .ensures .0) _ (c .before .before .before .answer .given .1))
-
-slice-aggregate-segment-lines : tie.Need-slice-aggregate-segment-lines
-slice-aggregate-segment-lines c = search needs
 
 segment-lines-requires : tie.Need-segment-lines-requires
 segment-lines-requires c κs =
@@ -36,12 +21,6 @@ segment-lines-requires c κs =
     let l = opened (c .before .before .layout-of .ensures .0) in
     let n = c .before .before .before .accepted-line .ensures in
     (omega (arith, s, l .segments-place, l .places, l .places-most), omega (arith, s, most, n .1, n .0 .same-length))
-
-enum-known-answer-2 : tie.Need-enum-known-answer-2
-enum-known-answer-2 c = search needs
-
-refused-line-requires : tie.Need-refused-line-requires
-refused-line-requires c κs = search needs
 
 returns : tie.Need-returns
 returns c =
@@ -57,14 +36,14 @@ pub mark-sheet-spec : {M : Type 1} → statement M
 mark-sheet-spec =
     tie.close
     (tie.spec
-    slice-aggregate-check
-    check-requires
-    enum-known-answer
-    accepted-line-requires
+    (λ c. search needs)
+    (λ c κs. search needs)
+    (λ c. search needs)
+    (λ c κs. search needs)
     layout-of-requires
-    slice-aggregate-segment-lines
+    (λ c. search needs)
     segment-lines-requires
-    enum-known-answer-2
-    refused-line-requires
+    (λ c. search needs)
+    (λ c κs. search needs)
     returns
     returns-2)

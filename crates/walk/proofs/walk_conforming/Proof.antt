@@ -37,7 +37,7 @@ returns-2 c =
     let a = e .args in
     refused-28 (a .model .now) (a .instance .now) (a .place) (a .path) (a .node) (a .results .now) (e .pre) (k .before .before .before .before .choose .result) (k .before .before .before .before .choose .ensures)
     (sym (k .before .before .walk-27 .ensures) ∙ c .before .if1 .left)
-    (sym (rw (k .before .before .before .start-in .ensures, k .before .nodes-of .ensures) at (k .walk-28 .ensures) ∙ is-28 (a .instance .now) (modelIn (a .model .now)) _ (a .node)) ∙ c .if2 .taken)
+    (sym (rw (k .before .before .before .chosen-start .ensures, k .before .nodes-of .ensures) at (k .walk-28 .ensures) ∙ is-28 (a .instance .now) (modelIn (a .model .now)) _ (a .node)) ∙ c .if2 .taken)
 
 walk-29-requires : tie.Need-walk-29-requires
 walk-29-requires c κs =
@@ -55,7 +55,7 @@ returns-3 c =
     let a = e .args in
     refused-29 (a .model .now) (a .instance .now) (a .place) (a .path) (a .node) (a .results .now) (e .pre) (k .before .before .before .before .choose .result) (k .before .before .before .before .choose .ensures)
     (sym (k .before .before .walk-27 .ensures) ∙ c .before .before .before .before .before .before .if1 .left)
-    (sym (rw (k .before .before .before .start-in .ensures, k .before .nodes-of .ensures) at (k .walk-28 .ensures) ∙ is-28 (a .instance .now) (modelIn (a .model .now)) _ (a .node)) ∙ c .before .before .before .before .before .if2 .left)
+    (sym (rw (k .before .before .before .chosen-start .ensures, k .before .nodes-of .ensures) at (k .walk-28 .ensures) ∙ is-28 (a .instance .now) (modelIn (a .model .now)) _ (a .node)) ∙ c .before .before .before .before .before .if2 .left)
     (sym (rw (c .before .before .before .before .slots-of .ensures, c .before .before .before .items-of .ensures) at (c .before .walk-29 .ensures) ∙ is-29 (a .instance .now) (a .results .now)) ∙ c .if3 .taken)
 
 cast-walk-along : tie.Need-cast-walk-along
@@ -67,7 +67,7 @@ cast-walk-along c =
       arith,
       start-small (a .model .now) (a .instance .now) (a .place) (a .path) (a .node) (a .results .now) (e .pre) (k .before .before .before .before .choose .result) (k .before .before .before .before .choose .ensures)
           (sym (k .before .before .walk-27 .ensures) ∙ c .before .before .before .before .before .before .before .if1 .left)
-          (sym (rw (k .before .before .before .start-in .ensures, k .before .nodes-of .ensures) at (k .walk-28 .ensures) ∙ is-28 (a .instance .now) (modelIn (a .model .now)) _ (a .node)) ∙ c .before .before .before .before .before .before .if2 .left),
+          (sym (rw (k .before .before .before .chosen-start .ensures, k .before .nodes-of .ensures) at (k .walk-28 .ensures) ∙ is-28 (a .instance .now) (modelIn (a .model .now)) _ (a .node)) ∙ c .before .before .before .before .before .before .if2 .left),
     )
 
 walk-along-requires : tie.Need-walk-along-requires
@@ -75,18 +75,18 @@ walk-along-requires c κs =
     let k = c .before .before .before .before .before .before .before .before .before in
     let e = k .before .before .before .before .before .before .before .before .before in
     let a = e .args in (
-      (k .before .before .before .before .before .layout-of .ensures .0, keeps-20 (a .model .now) (a .instance .now) (a .place) (a .path) (a .node) (a .results .now) (e .pre), omega (arith, c .before .path-in .ensures)),
+      (k .before .before .before .before .before .layout-of .ensures .0, keeps-20 (a .model .now) (a .instance .now) (a .place) (a .path) (a .node) (a .results .now) (e .pre), omega (arith, c .before .chosen-path .ensures)),
       (
         bytes-fit (a .model .now) (a .instance .now) (a .place) (a .path) (a .node) (a .results .now) (e .pre) (k .before .before .before .before .choose .result) (k .before .before .before .before .choose .ensures)
             (sym (k .before .before .walk-27 .ensures) ∙ c .before .before .before .before .before .before .before .before .if1 .left)
-            (sym (rw (k .before .before .before .start-in .ensures, k .before .nodes-of .ensures) at (k .walk-28 .ensures) ∙ is-28 (a .instance .now) (modelIn (a .model .now)) _ (a .node)) ∙ c .before .before .before .before .before .before .before .if2 .left)
+            (sym (rw (k .before .before .before .chosen-start .ensures, k .before .nodes-of .ensures) at (k .walk-28 .ensures) ∙ is-28 (a .instance .now) (modelIn (a .model .now)) _ (a .node)) ∙ c .before .before .before .before .before .before .before .if2 .left)
             (sym (rw (c .before .before .before .before .before .before .slots-of .ensures, c .before .before .before .before .before .items-of .ensures) at (c .before .before .before .walk-29 .ensures) ∙ is-29 (a .instance .now) (a .results .now)) ∙ c .before .before .if3 .left)
-            (c .before .path-in .result .first) (c .before .path-in .result .count) (c .before .path-in .ensures .0) (c .before .path-in .ensures .1),
+            (c .before .chosen-path .result .first) (c .before .chosen-path .result .count) (c .before .chosen-path .ensures .0) (c .before .chosen-path .ensures .1),
         few-opened (a .model .now) (a .instance .now) (a .place) (a .path) (a .node) (a .results .now) (e .pre) (k .before .before .before .before .choose .result) (k .before .before .before .before .choose .ensures)
             (sym (k .before .before .walk-27 .ensures) ∙ c .before .before .before .before .before .before .before .before .if1 .left)
-            (sym (rw (k .before .before .before .start-in .ensures, k .before .nodes-of .ensures) at (k .walk-28 .ensures) ∙ is-28 (a .instance .now) (modelIn (a .model .now)) _ (a .node)) ∙ c .before .before .before .before .before .before .before .if2 .left)
+            (sym (rw (k .before .before .before .chosen-start .ensures, k .before .nodes-of .ensures) at (k .walk-28 .ensures) ∙ is-28 (a .instance .now) (modelIn (a .model .now)) _ (a .node)) ∙ c .before .before .before .before .before .before .before .if2 .left)
             (sym (rw (c .before .before .before .before .before .before .slots-of .ensures, c .before .before .before .before .before .items-of .ensures) at (c .before .before .before .walk-29 .ensures) ∙ is-29 (a .instance .now) (a .results .now)) ∙ c .before .before .if3 .left)
-            (c .before .path-in .result .first) (c .before .path-in .result .count) (c .before .path-in .ensures .0) (c .before .path-in .ensures .1),
+            (c .before .chosen-path .result .first) (c .before .chosen-path .result .count) (c .before .chosen-path .ensures .0) (c .before .chosen-path .ensures .1),
       ),
     )
 
@@ -100,9 +100,9 @@ cast-t21 c =
       c .before .before .before .walk-along .ensures .1 .0,
       few-results (a .model .now) (a .instance .now) (a .place) (a .path) (a .node) (a .results .now) (e .pre) (k .before .before .before .before .choose .result) (k .before .before .before .before .choose .ensures)
           (sym (k .before .before .walk-27 .ensures) ∙ c .before .before .before .before .before .before .before .before .before .before .before .before .if1 .left)
-          (sym (rw (k .before .before .before .start-in .ensures, k .before .nodes-of .ensures) at (k .walk-28 .ensures) ∙ is-28 (a .instance .now) (modelIn (a .model .now)) _ (a .node)) ∙ c .before .before .before .before .before .before .before .before .before .before .before .if2 .left)
+          (sym (rw (k .before .before .before .chosen-start .ensures, k .before .nodes-of .ensures) at (k .walk-28 .ensures) ∙ is-28 (a .instance .now) (modelIn (a .model .now)) _ (a .node)) ∙ c .before .before .before .before .before .before .before .before .before .before .before .if2 .left)
           (sym (rw (c .before .before .before .before .before .before .before .before .before .before .slots-of .ensures, c .before .before .before .before .before .before .before .before .before .items-of .ensures) at (c .before .before .before .before .before .before .before .walk-29 .ensures) ∙ is-29 (a .instance .now) (a .results .now)) ∙ c .before .before .before .before .before .before .if3 .left)
-          (c .before .before .before .before .before .path-in .result .first) (c .before .before .before .before .before .path-in .result .count) (c .before .before .before .before .before .path-in .ensures .0) (c .before .before .before .before .before .path-in .ensures .1),
+          (c .before .before .before .before .before .chosen-path .result .first) (c .before .before .before .before .before .chosen-path .result .count) (c .before .before .before .before .before .chosen-path .ensures .0) (c .before .before .before .before .before .chosen-path .ensures .1),
     )
 
 returns-4 : tie.Need-returns-4
@@ -114,9 +114,9 @@ returns-4 c =
     let d = c .before .before .before .walk-along .ensures in
     answered (a .model .now) (a .instance .now) (a .place) (a .path) (a .node) (a .results .now) (e .pre) (k .before .before .before .before .choose .result) (k .before .before .before .before .choose .ensures)
     (sym (k .before .before .walk-27 .ensures) ∙ c .before .before .before .before .before .before .before .before .before .before .before .before .if1 .left)
-    (sym (rw (k .before .before .before .start-in .ensures, k .before .nodes-of .ensures) at (k .walk-28 .ensures) ∙ is-28 (a .instance .now) (modelIn (a .model .now)) _ (a .node)) ∙ c .before .before .before .before .before .before .before .before .before .before .before .if2 .left)
+    (sym (rw (k .before .before .before .chosen-start .ensures, k .before .nodes-of .ensures) at (k .walk-28 .ensures) ∙ is-28 (a .instance .now) (modelIn (a .model .now)) _ (a .node)) ∙ c .before .before .before .before .before .before .before .before .before .before .before .if2 .left)
     (sym (rw (c .before .before .before .before .before .before .before .before .before .before .slots-of .ensures, c .before .before .before .before .before .before .before .before .before .items-of .ensures) at (c .before .before .before .before .before .before .before .walk-29 .ensures) ∙ is-29 (a .instance .now) (a .results .now)) ∙ c .before .before .before .before .before .before .if3 .left)
-    (c .before .before .before .before .before .path-in .result .first) (c .before .before .before .before .before .path-in .result .count) (c .before .before .before .before .before .path-in .ensures .0) (c .before .before .before .before .before .path-in .ensures .1)
+    (c .before .before .before .before .before .chosen-path .result .first) (c .before .before .before .before .before .chosen-path .result .count) (c .before .before .before .before .before .chosen-path .ensures .0) (c .before .before .before .before .before .chosen-path .ensures .1)
     (d .0) (d .1 .0) (d .1 .1)
 
 pub walk-conforming-spec : {M : Type 1} → statement M

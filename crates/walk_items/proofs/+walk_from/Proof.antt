@@ -16,7 +16,7 @@ use Rattle.walk_items.proofs.walk_from.Reads as walk-from
 use Rattle.walk_items.proofs.walk_from.Kinds as walk-from-kinds
 use Rattle.walk_items.proofs.+walk_from.Lts-walk_from as walk-from-lts
 use Rattle.walk_step.proofs.item_in.Reads as item-in-reads
-use Rattle.walk_step.proofs.run_of.Reads as run-of-reads
+use Rattle.walk_step.proofs.next_of.Reads as next-of-reads
 use Rattle.walk_items.proofs.stops.Reads as stops-reads
 use Rattle.walk_items.proofs.write_item.Reads as write-item-reads
 use Rattle.walk_items.proofs.+walk_from.{statement}
@@ -33,12 +33,12 @@ walk-from-below t =
     and 5 walk-from-kinds.ps (falls 5 walk-from-kinds.ps _<_ μ-walk-from t) walk-from.Pre
 
 abbrev walk-from-Inv-loop : walk-from-lts.InvT-loop
-walk-from-Inv-loop model at nodes slots items here out₀ run end₀ opened₀ j₀ out end opened j =
-    Turn (modelIn model) (instanceOf nodes slots items) here items run out₀ out end opened j × (0 < here .left)
-    × (Laid model at × (length nodes ≤ 1024) × (here .k + here .left < 65536)) × (run .first + run .count < 65536) × Ancestors (typesIn model) (run .t) (run .ancestors)
+walk-from-Inv-loop model at nodes slots items here out₀ next end₀ opened₀ j₀ out end opened j =
+    Turn (modelIn model) (instanceOf nodes slots items) here items next out₀ out end opened j × (0 < here .left)
+    × (Laid model at × (length nodes ≤ 1024) × (here .k + here .left < 65536)) × (next .first + next .count < 65536) × Ancestors (typesIn model) (next .t) (next .ancestors)
 
 abbrev walk-from-μ-loop : walk-from-lts.MeasureT-loop
-walk-from-μ-loop model at nodes slots items here out₀ run end₀ opened₀ j₀ out end opened j = run .count - j
+walk-from-μ-loop model at nodes slots items here out₀ next end₀ opened₀ j₀ out end opened j = next .count - j
 
 pub +walk-from-spec : {M : Type 1} → statement M
 +walk-from-spec = close μ-walk-from λ t. walk-from-lts.spec (
@@ -46,8 +46,8 @@ pub +walk-from-spec : {M : Type 1} → statement M
   stops-reads.Learnt,
   write-item-reads.Asked,
   write-item-reads.Learnt,
-  run-of-reads.Asked,
-  run-of-reads.Learnt,
+  next-of-reads.Asked,
+  next-of-reads.Learnt,
   item-in-reads.Asked,
   item-in-reads.Learnt,
   walk-from-below t,
@@ -72,8 +72,8 @@ pub +walk-from-spec : {M : Type 1} → statement M
     let e = c .before .before .before .before .before .before .before .before in
     let a = e .args in
     let h = sym (c .before .before .stops .ensures) ∙ c .before .if1 .left in
-    let s = rw (← c .run-of .ensures .0) at (step-is (modelIn (e .args .model .now)) (a .nodes .now) (a .slots .now) (a .items .now) (a .here .k) (a .here .t) (a .here .v) (c .run-of .result .ancestors) (not-null (modelIn (e .args .model .now)) (instanceOf (e .args .nodes .now) (e .args .slots .now) (e .args .items .now)) (a .here) h)) in
-    (begin (modelIn (e .args .model .now)) (instanceOf (e .args .nodes .now) (e .args .slots .now) (e .args .items .now)) (a .here) h (a .items .now) (c .run-of .result) s (e .pre .1 .1 .0) (e .pre .1 .1 .1), some-left (modelIn (e .args .model .now)) (instanceOf (e .args .nodes .now) (e .args .slots .now) (e .args .items .now)) (a .here) h, (e .pre .1 .0 .0, e .pre .1 .0 .1, e .pre .1 .0 .2), s .small, c .run-of .ensures .1))
+    let s = rw (← c .next-of .ensures .0) at (step-is (modelIn (e .args .model .now)) (a .nodes .now) (a .slots .now) (a .items .now) (a .here .k) (a .here .t) (a .here .v) (c .next-of .result .ancestors) (not-null (modelIn (e .args .model .now)) (instanceOf (e .args .nodes .now) (e .args .slots .now) (e .args .items .now)) (a .here) h)) in
+    (begin (modelIn (e .args .model .now)) (instanceOf (e .args .nodes .now) (e .args .slots .now) (e .args .items .now)) (a .here) h (a .items .now) (c .next-of .result) s (e .pre .1 .1 .0) (e .pre .1 .1 .1), some-left (modelIn (e .args .model .now)) (instanceOf (e .args .nodes .now) (e .args .slots .now) (e .args .items .now)) (a .here) h, (e .pre .1 .0 .0, e .pre .1 .0 .1, e .pre .1 .0 .2), s .small, c .next-of .ensures .1))
     (λ c. search needs)
     (λ c κs. search needs)
     (λ c. search needs)

@@ -14,21 +14,23 @@ slice-write-out-4 : tie.Need-slice-write-out-4
 slice-write-out-4 c = simp length-set (search needs)
 
 returns : tie.Need-returns
-returns c = write-is (c .args .out .now) (c .args .at) (c .args .t) (c .args .v)
+returns c =
+    let a = c .before .before .before .before .args in
+    rw (c .byte-of3 .ensures, c .before .byte-of2 .ensures, c .before .before .byte-of .ensures) (write-is (a .out .now) (a .at) (a .t) (a .v))
 
 pub write-item-spec : {M : Type 1} → statement M
 write-item-spec =
     tie.close
     (tie.spec
     (λ c. search needs)
-    (λ c. search needs)
+    (λ c κs. search needs)
     (λ c. search needs)
     slice-write-out-2
-    (λ c. search needs)
+    (λ c κs. search needs)
     (λ c. search needs)
     slice-write-out-3
-    (λ c. search needs)
+    (λ c κs. search needs)
     (λ c. search needs)
     slice-write-out-4
-    (λ c. search needs)
+    (λ c. simp length-set)
     returns)

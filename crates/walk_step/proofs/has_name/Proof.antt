@@ -5,7 +5,7 @@ use Rattle.walk_step.proofs.has_name.Tie as tie
 
 returns : tie.Need-returns
 unfolding hasName
-returns c = cc
+returns c = rw (c .same-bytes .ensures, c .before .property-text .ensures, c .before .before .slot-property .ensures .0)
 
 pub has-name-spec : {M : Type 1} → statement M
 has-name-spec =

@@ -10,49 +10,19 @@ Inv-loop digits r₀ i₀ r i = (i ≤ length digits) × (r < 4294967296)
 abbrev μ-loop : tie.MeasureT-loop
 μ-loop digits r₀ i₀ r i = length digits - i
 
-loop-holds : tie.Need-loop-holds Inv-loop μ-loop
-loop-holds c = search needs
-
-mul-r : tie.Need-mul-r Inv-loop μ-loop
-mul-r c = search needs
-
-shared-slice-read-digit : tie.Need-shared-slice-read-digit Inv-loop μ-loop
-shared-slice-read-digit c = search needs
-
-digit-requires : tie.Need-digit-requires Inv-loop μ-loop
-digit-requires c κs = search needs
-
-add-r : tie.Need-add-r Inv-loop μ-loop
-add-r c = search needs
-
-add-i : tie.Need-add-i Inv-loop μ-loop
-add-i c = search needs
-
-loop-less : tie.Need-loop-less Inv-loop μ-loop
-loop-less c = search needs
-
-loop-again : tie.Need-loop-again Inv-loop μ-loop
-loop-again c = search needs
-
-cast-result : tie.Need-cast-result Inv-loop μ-loop
-cast-result c = search needs
-
-returns : tie.Need-returns Inv-loop μ-loop
-returns c = search needs
-
 pub number-spec : {M : Type 1} → statement M
 number-spec =
     tie.close
     (tie.spec
     Inv-loop
     μ-loop
-    loop-holds
-    mul-r
-    shared-slice-read-digit
-    digit-requires
-    add-r
-    add-i
-    loop-less
-    loop-again
-    cast-result
-    returns)
+    (λ c. search needs)
+    (λ c. search needs)
+    (λ c. search needs)
+    (λ c κs. search needs)
+    (λ c. search needs)
+    (λ c. search needs)
+    (λ c. search needs)
+    (λ c. search needs)
+    (λ c. search needs)
+    (λ c. search needs))

@@ -5,22 +5,19 @@ use Rattle.explain.proofs.listing.paths_of.Statement.{statement}
 use Rattle.explain.proofs.listing.paths_of.Tie as tie
 
 abbrev Inv-loop : tie.InvT-loop
-Inv-loop image at resolution first last n r₀ r = (r ≤ n) × Laid image at
+Inv-loop image at resolution kind n r₀ r = (r ≤ n) × Laid image at
 
 abbrev μ-loop : tie.MeasureT-loop
-μ-loop image at resolution first last n r₀ r = n - r
+μ-loop image at resolution kind n r₀ r = n - r
 
-holders-requires : tie.Need-holders-requires Inv-loop μ-loop
-holders-requires c κs = search needs
+holders-in-requires : tie.Need-holders-in-requires Inv-loop μ-loop
+holders-in-requires c κs = search needs
 
 loop-holds : tie.Need-loop-holds Inv-loop μ-loop
 loop-holds c = search needs
 
 path-requires : tie.Need-path-requires Inv-loop μ-loop
 path-requires c κs = search needs
-
-path-requires-2 : tie.Need-path-requires-2 Inv-loop μ-loop
-path-requires-2 c κs = search needs
 
 add-r : tie.Need-add-r Inv-loop μ-loop
 add-r c = search needs
@@ -40,10 +37,9 @@ paths-of-spec =
     (tie.spec
     Inv-loop
     μ-loop
-    holders-requires
+    holders-in-requires
     loop-holds
     path-requires
-    path-requires-2
     add-r
     loop-less
     loop-again

@@ -8,7 +8,7 @@ use Rattle.csdl.specs.Instance.{instanceIn}
 use Rattle.csdl.specs.Verdict.{instanceMeans}
 use Rattle.csdl.specs.Verdict.Answer.{accepted}
 use Rattle.instance_image.proofs.Sizes.{sized}
-use Rattle.instance_runs.proofs.Fills.{holding}
+use Rattle.instance_runs.proofs.Fills.{tabulates}
 use Rattle.instance_check.specs.Stages.{Owners}
 use Rattle.instance_check.proofs.Stages.{Clear, clear-start, clear-next, clear-broken, clear-all}
 use Rattle.instance_check.proofs.rules.first_broken.Statement.{statement}
@@ -26,7 +26,7 @@ slots-of-items-requires c κs =
     rw (c .slots-of .ensures) (sized (s .args .instance .now) (s .pre .1) .slots-length)
 
 loop-holds : tie.Need-loop-holds Inv-loop μ-loop
-loop-holds c = (clear-start _ _ _, holding _ _ _ (rw (c .before .slots-of .ensures) at (c .slots-of-items .ensures)))
+loop-holds c = (clear-start _ _ _, tabulates _ _ _ (rw (c .before .slots-of .ensures) at (c .slots-of-items .ensures)))
 
 slice-aggregate-lowest : tie.Need-slice-aggregate-lowest Inv-loop μ-loop
 slice-aggregate-lowest c = sym (c .before .before .loop .inv .1 .size)

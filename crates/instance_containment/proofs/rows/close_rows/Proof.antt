@@ -4,7 +4,7 @@ use mathlib.Core.Path.{_≡_, sym, _∙_}
 use native.Mathlib.Omega.{arith}
 use lib.ListN.{length}
 use Rattle.instance_containment.specs.Rows.{inRow}
-use Rattle.instance_containment.proofs.Closing.{Reached, reached-start, reached-more, reached-all}
+use Rattle.type_hierarchy.proofs.Closing.{Reached, reached-start, reached-more, reached-all}
 use Rattle.instance_containment.proofs.rows.close_rows.Statement.{statement}
 use Rattle.instance_containment.proofs.rows.close_rows.Tie as tie
 

@@ -1,11 +1,11 @@
 use borrow.Author.Needs.{needs}
 use Prim.Native.Nat.{ℕ, _<_}
-use mathlib.Core.Path.{_≡_, sym, ap, _∙_}
+use mathlib.Core.Path.{sym, ap, _∙_}
 use mathlib.Core.Bool.{Bool, _||_}
 use native.Mathlib.Omega.{arith}
 use lib.Dec.{ltb}
 use lib.ListN.{getD}
-use Rattle.instance_values.proofs.Places.{first-same}
+use Rattle.csdl.proofs.Logic.{first-same}
 use Rattle.instance_containment.specs.Graph.{nodeIn, entry, stepIn, withinIn}
 use Rattle.instance_containment.specs.Rows.{inRow}
 use Rattle.instance_containment.proofs.Bridge.{reaches-same}
@@ -33,7 +33,7 @@ returns c =
     let made = c .before .before .before .before .before .step-rows in
     let closed = c .before .before .before .close-rows in (
       c .first-in-rows .ensures .0
-          ∙ first-same _ _ (a .n) 0
+          ∙ first-same _ _ 0 (a .n)
           (λ w l h.
           let m : w < a .n = omega (arith, h) in
           ap (λ (x : Bool). ltb 1 (getD (a .times .now) w 0) || x)

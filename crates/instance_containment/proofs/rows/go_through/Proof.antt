@@ -4,7 +4,7 @@ use mathlib.Core.Path.{_≡_, sym, _∙_}
 use native.Mathlib.Omega.{arith}
 use lib.ListN.{length}
 use Rattle.instance_containment.specs.Rows.{inRow}
-use Rattle.instance_containment.proofs.Closing.{Going, going-start, going-more, going-through}
+use Rattle.type_hierarchy.proofs.Closing.{Going, going-start, going-more, going-through}
 use Rattle.instance_containment.proofs.rows.go_through.Statement.{statement}
 use Rattle.instance_containment.proofs.rows.go_through.Tie as tie
 

@@ -5,7 +5,7 @@ use Rattle.instance_image.proofs.image.bad_instance.Tie as tie
 
 returns : tie.Need-returns
 unfolding image20
-returns c = cc
+returns c = rw (c .number-at4 .ensures, c .before .number-at3 .ensures, c .before .before .number-at2 .ensures, c .before .before .before .number-at .ensures)
 
 pub bad-instance-spec : {M : Type 1} → statement M
 bad-instance-spec =

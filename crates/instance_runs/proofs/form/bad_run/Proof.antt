@@ -6,11 +6,8 @@ use Rattle.instance_runs.proofs.form.bad_run.Tie as tie
 returns : tie.Need-returns
 returns c = rw (eq-eqb _ _ (c .if1 .taken))
 
-add-result : tie.Need-add-result
-add-result c = search needs
-
 returns-2 : tie.Need-returns-2
 returns-2 c = rw (ne-eqb _ _ (c .if1 .left))
 
 pub bad-run-spec : {M : Type 1} → statement M
-bad-run-spec = tie.close (tie.spec returns add-result returns-2)
+bad-run-spec = tie.close (tie.spec returns (λ c. search needs) returns-2)

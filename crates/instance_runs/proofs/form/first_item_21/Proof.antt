@@ -4,7 +4,7 @@ use Rattle.csdl.specs.Instance.{instanceOf}
 use Rattle.csdl.specs.Conforms.{item21c}
 use Rattle.csdl.proofs.Loops.{First, first}
 use borrow.Author.Needs.{needs}
-use Rattle.instance_runs.proofs.Fills.{holding}
+use Rattle.instance_runs.proofs.Fills.{tabulates}
 use Rattle.instance_runs.proofs.form.first_item_21.Statement.{statement}
 use Rattle.instance_runs.proofs.form.first_item_21.Tie as tie
 
@@ -14,32 +14,14 @@ Inv-loop slots items uses n k₀ k = First (λ u. item21c (instanceOf [] slots [
 abbrev μ-loop : tie.MeasureT-loop
 μ-loop slots items uses n k₀ k = n - k
 
-slots-with-requires : tie.Need-slots-with-requires Inv-loop μ-loop
-slots-with-requires c κs = search needs
-
-item-count-requires : tie.Need-item-count-requires Inv-loop μ-loop
-item-count-requires c κs = search needs
-
 loop-holds : tie.Need-loop-holds Inv-loop μ-loop
 loop-holds c = (search first, search needs)
 
-slice-aggregate-item-21 : tie.Need-slice-aggregate-item-21 Inv-loop μ-loop
-slice-aggregate-item-21 c = search needs
-
 item-21-requires : tie.Need-item-21-requires Inv-loop μ-loop
-item-21-requires c κs = (search needs, holding _ _ _ (c .before .before .before .before .slots-with .ensures))
-
-add-result : tie.Need-add-result Inv-loop μ-loop
-add-result c = search needs
+item-21-requires c κs = (search needs, tabulates _ _ _ (c .before .before .before .before .slots-with .ensures))
 
 returns : tie.Need-returns Inv-loop μ-loop
 returns c = (rw (← c .before .before .before .before .before .item-count .ensures .0) (search first), search needs)
-
-add-k : tie.Need-add-k Inv-loop μ-loop
-add-k c = search needs
-
-loop-less : tie.Need-loop-less Inv-loop μ-loop
-loop-less c = search needs
 
 loop-again : tie.Need-loop-again Inv-loop μ-loop
 loop-again c = (search first, search needs)
@@ -53,14 +35,14 @@ first-item-21-spec =
     (tie.spec
     Inv-loop
     μ-loop
-    slots-with-requires
-    item-count-requires
+    (λ c κs. search needs)
+    (λ c κs. search needs)
     loop-holds
-    slice-aggregate-item-21
+    (λ c. search needs)
     item-21-requires
-    add-result
+    (λ c. search needs)
     returns
-    add-k
-    loop-less
+    (λ c. search needs)
+    (λ c. search needs)
     loop-again
     returns-2)

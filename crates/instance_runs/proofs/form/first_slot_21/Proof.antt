@@ -6,7 +6,7 @@ use Rattle.csdl.specs.Instance.{instanceOf}
 use Rattle.csdl.specs.Conforms.{slot21b}
 use Rattle.csdl.proofs.Loops.{First, first}
 use borrow.Author.Needs.{needs}
-use Rattle.instance_runs.proofs.Fills.{holding}
+use Rattle.instance_runs.proofs.Fills.{tabulates}
 use Rattle.instance_runs.proofs.form.first_slot_21.Statement.{statement}
 use Rattle.instance_runs.proofs.form.first_slot_21.Tie as tie
 
@@ -16,32 +16,14 @@ Inv-loop properties nodes slots items uses n s₀ s = First (λ u. slot21b (mode
 abbrev μ-loop : tie.MeasureT-loop
 μ-loop properties nodes slots items uses n s₀ s = n - s
 
-nodes-with-requires : tie.Need-nodes-with-requires Inv-loop μ-loop
-nodes-with-requires c κs = search needs
-
-slot-count-requires : tie.Need-slot-count-requires Inv-loop μ-loop
-slot-count-requires c κs = search needs
-
 loop-holds : tie.Need-loop-holds Inv-loop μ-loop
 loop-holds c = (search first, search needs, search needs, search needs)
 
-slice-aggregate-slot-21 : tie.Need-slice-aggregate-slot-21 Inv-loop μ-loop
-slice-aggregate-slot-21 c = search needs
-
 slot-21-requires : tie.Need-slot-21-requires Inv-loop μ-loop
-slot-21-requires c κs = (search needs, search needs, search needs, holding _ _ _ (c .before .before .before .before .nodes-with .ensures))
-
-add-result : tie.Need-add-result Inv-loop μ-loop
-add-result c = search needs
+slot-21-requires c κs = (search needs, search needs, search needs, tabulates _ _ _ (c .before .before .before .before .nodes-with .ensures))
 
 returns : tie.Need-returns Inv-loop μ-loop
 returns c = (rw (← c .before .before .before .before .before .slot-count .ensures .0) (search first), search needs)
-
-add-s : tie.Need-add-s Inv-loop μ-loop
-add-s c = search needs
-
-loop-less : tie.Need-loop-less Inv-loop μ-loop
-loop-less c = search needs
 
 loop-again : tie.Need-loop-again Inv-loop μ-loop
 loop-again c = (search first, search needs, search needs, search needs)
@@ -55,14 +37,14 @@ first-slot-21-spec =
     (tie.spec
     Inv-loop
     μ-loop
-    nodes-with-requires
-    slot-count-requires
+    (λ c κs. search needs)
+    (λ c κs. search needs)
     loop-holds
-    slice-aggregate-slot-21
+    (λ c. search needs)
     slot-21-requires
-    add-result
+    (λ c. search needs)
     returns
-    add-s
-    loop-less
+    (λ c. search needs)
+    (λ c. search needs)
     loop-again
     returns-2)

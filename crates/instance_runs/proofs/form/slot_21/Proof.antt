@@ -1,20 +1,11 @@
 use Rattle.csdl.specs.Model.{modelOf}
 use Rattle.csdl.specs.Instance.{instanceOf}
 use Rattle.csdl.specs.Conforms.{slot21b, countUnlike, nodesWith}
-use Rattle.instance_runs.specs.Parts.{slotForm}
+use Rattle.instance_runs.specs.Clauses.{slotForm}
 use Rattle.instance_runs.proofs.Counts.{two-one}
 use borrow.Author.Needs.{needs}
 use Rattle.instance_runs.proofs.form.slot_21.Statement.{statement}
 use Rattle.instance_runs.proofs.form.slot_21.Tie as tie
-
-slot-form-requires : tie.Need-slot-form-requires
-slot-form-requires c κs = search needs
-
-mul-result : tie.Need-mul-result
-mul-result c = search needs
-
-shared-slice-read-result : tie.Need-shared-slice-read-result
-shared-slice-read-result c = search needs
 
 returns : tie.Need-returns
 unfolding modelOf instanceOf slot21b slotForm countUnlike nodesWith
@@ -23,4 +14,4 @@ returns c =
     rw (c .before .slot-form .ensures, s .pre .3 .at _ (s .pre .2), two-one _)
 
 pub slot-21-spec : {M : Type 1} → statement M
-slot-21-spec = tie.close (tie.spec slot-form-requires mul-result shared-slice-read-result returns)
+slot-21-spec = tie.close (tie.spec (λ c κs. search needs) (λ c. search needs) (λ c. search needs) returns)

@@ -5,13 +5,13 @@ use borrow.Author.Needs.{needs}
 use lib.ListN.{length}
 use Rattle.csdl.specs.Instance.{instanceOf, slotCount, slotItemsIn}
 use Rattle.csdl.specs.Conforms.{slotsWith}
-use Rattle.instance_runs.specs.Tables.{Holding}
+use Rattle.instance_runs.specs.Tables.{Tabulates}
 use Rattle.instance_runs.proofs.Fills.{countIn, count-none, count-down, count-all, is-table}
 use Rattle.instance_runs.proofs.runs.slots_with.Statement.{statement}
 use Rattle.instance_runs.proofs.runs.slots_with.Tie as tie
 
 abbrev Inv-loop : tie.InvT-loop
-Inv-loop slots array₀ s₀ array s = (s ≤ slotCount slots) × (length slots ≤ 5120) × Holding (countIn (λ u. slotItemsIn slots u) (slotCount slots) s) 2048 array
+Inv-loop slots array₀ s₀ array s = (s ≤ slotCount slots) × (length slots ≤ 5120) × Tabulates (countIn (λ u. slotItemsIn slots u) (slotCount slots) s) 2048 array
 
 abbrev μ-loop : tie.MeasureT-loop
 μ-loop slots array₀ s₀ array s = s

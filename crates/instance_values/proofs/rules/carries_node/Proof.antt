@@ -6,36 +6,15 @@ use borrow.Author.Needs.{needs}
 use Rattle.instance_values.proofs.rules.carries_node.Statement.{statement}
 use Rattle.instance_values.proofs.rules.carries_node.Tie as tie
 
-item-handle-requires : tie.Need-item-handle-requires
-item-handle-requires c κs = search needs
-
-node-count-requires : tie.Need-node-count-requires
-node-count-requires c κs = search needs
-
-cast-if1 : tie.Need-cast-if1
-cast-if1 c = search needs
-
 returns : tie.Need-returns
 unfolding modelOf instanceOf carriesNode
 returns c = rw (← c .before .before .item-handle .ensures .0, ← c .before .node-count .ensures .0, le-ltb _ _ (c .if1 .taken))
-
-item-ref-requires : tie.Need-item-ref-requires
-item-ref-requires c κs = search needs
-
-cast-node-type : tie.Need-cast-node-type
-cast-node-type c = search needs
-
-node-type-requires : tie.Need-node-type-requires
-node-type-requires c κs = search needs
 
 returns-2 : tie.Need-returns-2
 unfolding modelOf instanceOf carriesNode
 returns-2 c =
     let b = c .before .before .before in
     rw (← b .before .before .item-handle .ensures .0, ← b .before .node-count .ensures .0, lt-ltb _ _ (b .if1 .left), ← c .before .before .item-ref .ensures .0, ← c .before .node-type .ensures .0, ne-eqb _ _ (c .if2 .taken))
-
-is-under-requires : tie.Need-is-under-requires
-is-under-requires c κs = search needs
 
 returns-3 : tie.Need-returns-3
 unfolding modelOf instanceOf carriesNode
@@ -47,13 +26,13 @@ pub carries-node-spec : {M : Type 1} → statement M
 carries-node-spec =
     tie.close
     (tie.spec
-    item-handle-requires
-    node-count-requires
-    cast-if1
+    (λ c κs. search needs)
+    (λ c κs. search needs)
+    (λ c. search needs)
     returns
-    item-ref-requires
-    cast-node-type
-    node-type-requires
+    (λ c κs. search needs)
+    (λ c. search needs)
+    (λ c κs. search needs)
     returns-2
-    is-under-requires
+    (λ c κs. search needs)
     returns-3)

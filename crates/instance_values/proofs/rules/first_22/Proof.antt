@@ -15,26 +15,11 @@ Inv-loop types nodes n v₀ v = First (λ u. node22 (modelOf [] types [] [] [] [
 abbrev μ-loop : tie.MeasureT-loop
 μ-loop types nodes n v₀ v = n - v
 
-node-count-requires : tie.Need-node-count-requires Inv-loop μ-loop
-node-count-requires c κs = search needs
-
 loop-holds : tie.Need-loop-holds Inv-loop μ-loop
 loop-holds c = (search first, search needs, search needs)
 
-node-22-requires : tie.Need-node-22-requires Inv-loop μ-loop
-node-22-requires c κs = search needs
-
-add-result : tie.Need-add-result Inv-loop μ-loop
-add-result c = search needs
-
 returns : tie.Need-returns Inv-loop μ-loop
 returns c = (rw (← c .before .before .before .before .node-count .ensures .0) (search first), search needs)
-
-add-v : tie.Need-add-v Inv-loop μ-loop
-add-v c = search needs
-
-loop-less : tie.Need-loop-less Inv-loop μ-loop
-loop-less c = search needs
 
 loop-again : tie.Need-loop-again Inv-loop μ-loop
 loop-again c = (search first, search needs, search needs)
@@ -48,12 +33,12 @@ first-22-spec =
     (tie.spec
     Inv-loop
     μ-loop
-    node-count-requires
+    (λ c κs. search needs)
     loop-holds
-    node-22-requires
-    add-result
+    (λ c κs. search needs)
+    (λ c. search needs)
     returns
-    add-v
-    loop-less
+    (λ c. search needs)
+    (λ c. search needs)
     loop-again
     returns-2)

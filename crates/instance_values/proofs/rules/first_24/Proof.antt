@@ -14,26 +14,11 @@ Inv-loop properties slots n s₀ s = First (λ u. slot24 (modelOf [] [] properti
 abbrev μ-loop : tie.MeasureT-loop
 μ-loop properties slots n s₀ s = n - s
 
-slot-count-requires : tie.Need-slot-count-requires Inv-loop μ-loop
-slot-count-requires c κs = search needs
-
 loop-holds : tie.Need-loop-holds Inv-loop μ-loop
 loop-holds c = (search first, search needs)
 
-slot-24-requires : tie.Need-slot-24-requires Inv-loop μ-loop
-slot-24-requires c κs = search needs
-
-add-result : tie.Need-add-result Inv-loop μ-loop
-add-result c = search needs
-
 returns : tie.Need-returns Inv-loop μ-loop
 returns c = (rw (← c .before .before .before .before .slot-count .ensures .0) (search first), search needs)
-
-add-s : tie.Need-add-s Inv-loop μ-loop
-add-s c = search needs
-
-loop-less : tie.Need-loop-less Inv-loop μ-loop
-loop-less c = search needs
 
 loop-again : tie.Need-loop-again Inv-loop μ-loop
 loop-again c = (search first, search needs)
@@ -47,12 +32,12 @@ first-24-spec =
     (tie.spec
     Inv-loop
     μ-loop
-    slot-count-requires
+    (λ c κs. search needs)
     loop-holds
-    slot-24-requires
-    add-result
+    (λ c κs. search needs)
+    (λ c. search needs)
     returns
-    add-s
-    loop-less
+    (λ c. search needs)
+    (λ c. search needs)
     loop-again
     returns-2)

@@ -11,7 +11,7 @@ use Rattle.csdl.specs.Model.{modelOf}
 use Rattle.csdl.specs.Instance.{instanceOf}
 use Rattle.csdl.specs.Conforms.{node23}
 use Rattle.csdl.proofs.Loops.{First, first-start, first-hit, first-next, first-end}
-use Rattle.lookup.specs.Sets.{member}
+use Rattle.type_hierarchy.specs.Sets.{member}
 use Rattle.name_classes.specs.Classes.{nameOf, Ranked}
 use Rattle.instance_values.specs.Rows.{Rows}
 use Rattle.instance_values.proofs.Slotted.{rows-start, rows-more, rows-has, row-past, row-23}
@@ -26,17 +26,8 @@ Inv-loop types properties names index nodes slots n all rows₀ done₀ v₀ row
 abbrev μ-loop : tie.MeasureT-loop
 μ-loop types properties names index nodes slots n all rows₀ done₀ v₀ rows done v = n - v
 
-node-count-requires : tie.Need-node-count-requires Inv-loop μ-loop
-node-count-requires c κs = search needs
-
-property-count-requires : tie.Need-property-count-requires Inv-loop μ-loop
-property-count-requires c κs = search needs
-
 loop-holds : tie.Need-loop-holds Inv-loop μ-loop
 loop-holds c = let s = c .before .before .before .before .before .before .before .before in (first-start _ _, search needs, search needs, search needs, s .pre .3, rows-start _ _ _, c .property-count .ensures .0, c .property-count .ensures .1)
-
-node-type-requires : tie.Need-node-type-requires Inv-loop μ-loop
-node-type-requires c κs = search needs
 
 in-set-requires : tie.Need-in-set-requires Inv-loop μ-loop
 in-set-requires c κs = c .node-type .ensures .1
@@ -46,12 +37,6 @@ names-of-requires c κs = let l = c .before .before .before .before .loop in (se
 
 with-row-requires : tie.Need-with-row-requires Inv-loop μ-loop
 with-row-requires c κs = let l = c .before .before .before .before .before .loop in (l .inv .5 .size, c .names-of .ensures .0, c .before .before .before .node-type .ensures .1)
-
-with-one-requires : tie.Need-with-one-requires Inv-loop μ-loop
-with-one-requires c κs = search needs
-
-node-slots-requires : tie.Need-node-slots-requires Inv-loop μ-loop
-node-slots-requires c κs = search needs
 
 slice-aggregate-unlike-run : tie.Need-slice-aggregate-unlike-run Inv-loop μ-loop
 slice-aggregate-unlike-run c = let l = c .before .before .before .before .before .before .loop in
@@ -64,12 +49,6 @@ slice-aggregate-unlike-run c = let l = c .before .before .before .before .before
     (k .came) in
     sym (j .0 .size)
 
-cast-unlike-run : tie.Need-cast-unlike-run Inv-loop μ-loop
-cast-unlike-run c = search needs
-
-mul-unlike-run : tie.Need-mul-unlike-run Inv-loop μ-loop
-mul-unlike-run c = search needs
-
 unlike-run-requires : tie.Need-unlike-run-requires Inv-loop μ-loop
 unlike-run-requires c κs = let l = c .before .before .before .before .before .before .loop in
     let a = c .before .before .before .before .before .before .before .before .before .before .before .before .before .before .before .args in
@@ -81,9 +60,6 @@ unlike-run-requires c κs = let l = c .before .before .before .before .before .b
     (k .came) in
     (omega (arith, j .0 .size, t .ensures .1), l .inv .7, c .before .node-slots .ensures .2, c .before .node-slots .ensures .3, row-past _ _ _ _ _ _ (j .0) (t .ensures .1) (j .1) _ (l .inv .6))
 
-add-result : tie.Need-add-result Inv-loop μ-loop
-add-result c = search needs
-
 returns : tie.Need-returns Inv-loop μ-loop
 returns c = let l = c .before .before .before .before .before .before .before .before .loop in
     let a = c .before .before .before .before .before .before .before .before .before .before .before .before .before .before .before .before .before .args in
@@ -94,12 +70,6 @@ returns c = let l = c .before .before .before .before .before .before .before .b
     (λ w. rw (w .1, w .2) (l .inv .5, sym (c .before .before .before .before .before .in-set .ensures) ∙ not-false _ (w .0 .left)))
     (k .came) in
     (rw (← c .before .before .before .before .before .before .before .before .before .before .node-count .ensures .0) (first-hit _ _ _ _ (l .inv .0) (c .before .before .before .before .before .before .before .loop-test .taken) (row-23 _ _ _ _ _ _ (j .0) (t .ensures .1) (j .1) _ _ _ _ _ _ (l .inv .6) (l .inv .7) (t .ensures .0) (c .before .before .before .node-slots .ensures .0) (c .before .before .before .node-slots .ensures .1) _ (c .before .unlike-run .ensures)) (c .if2 .taken)), search needs)
-
-add-v : tie.Need-add-v Inv-loop μ-loop
-add-v c = search needs
-
-loop-less : tie.Need-loop-less Inv-loop μ-loop
-loop-less c = search needs
 
 loop-again : tie.Need-loop-again Inv-loop μ-loop
 loop-again c = let l = c .before .before .before .before .before .before .before .before .loop in
@@ -121,22 +91,22 @@ nodes-23-spec =
     (tie.spec
     Inv-loop
     μ-loop
-    node-count-requires
-    property-count-requires
+    (λ c κs. search needs)
+    (λ c κs. search needs)
     loop-holds
-    node-type-requires
+    (λ c κs. search needs)
     in-set-requires
     names-of-requires
     with-row-requires
-    with-one-requires
-    node-slots-requires
+    (λ c κs. search needs)
+    (λ c κs. search needs)
     slice-aggregate-unlike-run
-    cast-unlike-run
-    mul-unlike-run
+    (λ c. search needs)
+    (λ c. search needs)
     unlike-run-requires
-    add-result
+    (λ c. search needs)
     returns
-    add-v
-    loop-less
+    (λ c. search needs)
+    (λ c. search needs)
     loop-again
     returns-2)

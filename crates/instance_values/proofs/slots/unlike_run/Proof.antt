@@ -20,17 +20,8 @@ abbrev μ-loop : tie.MeasureT-loop
 loop-holds : tie.Need-loop-holds Inv-loop μ-loop
 loop-holds c = let s = c .before .before .pre in (s .4, s .1, slotted-start _ _ _ _ _ _ _ _, s .0, s .2, s .3)
 
-add-slot-property : tie.Need-add-slot-property Inv-loop μ-loop
-add-slot-property c = search needs
-
-slot-property-requires : tie.Need-slot-property-requires Inv-loop μ-loop
-slot-property-requires c κs = search needs
-
 in-wide-requires : tie.Need-in-wide-requires Inv-loop μ-loop
 in-wide-requires c κs = let i = c .before .before .before .loop .inv in (c .before .slot-property .ensures .1, i .3)
-
-slice-aggregate-in-wide : tie.Need-slice-aggregate-in-wide Inv-loop μ-loop
-slice-aggregate-in-wide c = search needs
 
 in-wide-requires-2 : tie.Need-in-wide-requires-2 Inv-loop μ-loop
 in-wide-requires-2 c κs = let i = c .before .before .before .before .before .loop .inv in (c .before .before .before .slot-property .ensures .1, omega (arith, i .2 .size))
@@ -40,12 +31,6 @@ returns c = let l = c .before .before .before .before .before .before .before .l
 
 with-wide-requires : tie.Need-with-wide-requires Inv-loop μ-loop
 with-wide-requires c κs = (c .before .before .before .before .before .before .before .loop .inv .2 .size, c .before .before .before .before .before .slot-property .ensures .1)
-
-add-done : tie.Need-add-done Inv-loop μ-loop
-add-done c = search needs
-
-loop-less : tie.Need-loop-less Inv-loop μ-loop
-loop-less c = search needs
 
 loop-again : tie.Need-loop-again Inv-loop μ-loop
 loop-again c = let l = c .before .before .before .loop in
@@ -62,9 +47,6 @@ loop-again c = let l = c .before .before .before .loop in
       l .inv .5,
     )
 
-slice-aggregate-unlike : tie.Need-slice-aggregate-unlike Inv-loop μ-loop
-slice-aggregate-unlike c = search needs
-
 unlike-requires : tie.Need-unlike-requires Inv-loop μ-loop
 unlike-requires c κs = let i = c .before .before .loop .inv in (i .2 .size, i .3)
 
@@ -78,16 +60,16 @@ unlike-run-spec =
     Inv-loop
     μ-loop
     loop-holds
-    add-slot-property
-    slot-property-requires
+    (λ c. search needs)
+    (λ c κs. search needs)
     in-wide-requires
-    slice-aggregate-in-wide
+    (λ c. search needs)
     in-wide-requires-2
     returns
     with-wide-requires
-    add-done
-    loop-less
+    (λ c. search needs)
+    (λ c. search needs)
     loop-again
-    slice-aggregate-unlike
+    (λ c. search needs)
     unlike-requires
     returns-2)

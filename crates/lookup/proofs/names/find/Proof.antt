@@ -1,5 +1,5 @@
 use mathlib.Core.Path.{sym}
-use Rattle.lookup.proofs.Past.{find-past}
+use Rattle.type_hierarchy.proofs.Past.{find-past}
 use borrow.Author.Needs.{needs}
 use Rattle.lookup.proofs.names.find.Statement.{statement}
 use Rattle.lookup.proofs.names.find.Tie as tie

@@ -7,9 +7,9 @@ use native.Mathlib.Omega.{arith}
 use Rattle.csdl.specs.Tables.{typeBase, typeCount, propertyCount}
 use Rattle.csdl.specs.Model.{modelOf}
 use Rattle.csdl.specs.Find.{find, own, declares}
-use Rattle.lookup.specs.Near.{leftAt, only}
-use Rattle.lookup.specs.Nearness.{nearnessOf}
-use Rattle.lookup.proofs.Climbing.{nearness-size, nearness-at}
+use Rattle.type_hierarchy.specs.Near.{leftAt, only}
+use Rattle.type_hierarchy.specs.Nearness.{nearnessOf}
+use Rattle.type_hierarchy.proofs.Climbing.{nearness-size, nearness-at}
 use Rattle.lookup.specs.Index.{Indexed}
 use Rattle.lookup.proofs.Found.{found-none}
 use Rattle.lookup.proofs.Looking.{Looking, remaining, on-start, on-below, on-less, looking-start, looking-end, looking-nearer, looking-farther}

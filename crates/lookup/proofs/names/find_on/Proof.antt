@@ -4,8 +4,9 @@ use mathlib.Core.List.{List}
 use native.Mathlib.Omega.{arith}
 use lib.ListN.{length}
 use Rattle.csdl.specs.Tables.{typeBase, typeCount}
-use Rattle.lookup.proofs.AncestorSets.{sets-size, sets-row}
-use Rattle.lookup.proofs.Past.{find-past}
+use Rattle.type_hierarchy.specs.AncestorSets.{meets}
+use Rattle.type_hierarchy.proofs.AncestorSets.{rows-size, rows-row}
+use Rattle.type_hierarchy.proofs.Past.{find-past}
 use Rattle.lookup.proofs.Found.{found-none, found-one, found-other}
 use borrow.Author.Needs.{needs}
 use Rattle.lookup.proofs.names.find_on.Statement.{statement}
@@ -27,7 +28,7 @@ next-alike-requires c κs = (c .before .before .before .before .before .before .
 
 shared-slice-read-above : tie.Need-shared-slice-read-above
 shared-slice-read-above c =
-    let e = ap (λ (l : List ℕ). length l) (c .before .before .before .before .before .before .before .before .before .before .before .before .before .before .pre .3) ∙ sets-size _ _ _ in
+    let e = ap (λ (l : List ℕ). length l) (c .before .before .before .before .before .before .before .before .before .before .before .before .before .before .pre .3) ∙ rows-size _ _ in
     omega (arith, e)
 
 returns-3 : tie.Need-returns-3
@@ -37,7 +38,7 @@ returns-3 c = let s = c .before .before .before .before .before .before .before 
     let f = c .before .before .before .before .before .before .before .before .before .first-named in
     let n = c .before .before .before .before .before .before .type-count in
     let there : a .t < typeCount (a .types .now) = rw (← n .ensures .0) (c .before .before .before .before .if4 .taken) in
-    let row = rw (← s .pre .3) at (sets-row (λ u. typeBase (a .types .now) u) (typeCount (a .types .now)) (typeCount (a .types .now)) (a .t) (omega arith) there (o .result) (o .ensures .1)) in
+    let row = rw (← s .pre .3) at (rows-row (λ t b. meets (λ u. typeBase (a .types .now) u) (typeCount (a .types .now)) t b) (typeCount (a .types .now)) (a .t) (omega arith) there (o .result) (o .ensures .1)) in
     found-one (a .types .now) (a .properties .now) (a .names .now) (a .name .now) (a .index .now) (s .pre .2) (omega arith) (a .t) (f .result) (f .ensures .0) (c .before .before .before .before .before .before .before .next-alike .result) (omega arith) (c .before .before .before .before .before .before .before .next-alike .ensures) (c .before .before .before .before .before .if3 .taken) (omega (arith, there))
     (rw (← o .ensures .0) (sym row ∙ sym (c .before .in-set .ensures) ∙ c .if5 .taken))
 
@@ -48,7 +49,7 @@ returns-4 c = let s = c .before .before .before .before .before .before .before 
     let f = c .before .before .before .before .before .before .before .before .before .first-named in
     let n = c .before .before .before .before .before .before .type-count in
     let there : a .t < typeCount (a .types .now) = rw (← n .ensures .0) (c .before .before .before .before .if4 .taken) in
-    let row = rw (← s .pre .3) at (sets-row (λ u. typeBase (a .types .now) u) (typeCount (a .types .now)) (typeCount (a .types .now)) (a .t) (omega arith) there (o .result) (o .ensures .1)) in
+    let row = rw (← s .pre .3) at (rows-row (λ t b. meets (λ u. typeBase (a .types .now) u) (typeCount (a .types .now)) t b) (typeCount (a .types .now)) (a .t) (omega arith) there (o .result) (o .ensures .1)) in
     found-other (a .types .now) (a .properties .now) (a .names .now) (a .name .now) (a .index .now) (s .pre .2) (omega arith) (a .t) (f .result) (f .ensures .0) (c .before .before .before .before .before .before .before .next-alike .result) (omega arith) (c .before .before .before .before .before .before .before .next-alike .ensures) (c .before .before .before .before .before .if3 .taken) (omega (arith, there))
     (rw (← o .ensures .0) (sym row ∙ sym (c .before .in-set .ensures) ∙ c .if5 .left))
 

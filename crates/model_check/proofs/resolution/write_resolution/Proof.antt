@@ -3,7 +3,7 @@ use mathlib.Core.Path.{_≡_}
 use native.Mathlib.Omega.{arith}
 use lib.ListN.{length, length-set}
 use Rattle.model_check.specs.Written.{Written}
-use Rattle.model_check.proofs.Writing.{written-start, written-more, all-written}
+use Rattle.model_check.proofs.Writing.{high-of, low-of, written-start, written-more, all-written}
 use borrow.Author.Needs.{needs}
 use Rattle.model_check.proofs.resolution.write_resolution.Statement.{statement}
 use Rattle.model_check.proofs.resolution.write_resolution.Tie as tie
@@ -24,7 +24,7 @@ loop-again : tie.Need-loop-again Inv-loop μ-loop
 loop-again c =
     let a = c .before .before .before .before .before .before .before .args in
     let l = c .before .before .before .before .loop in
-    (search needs, search needs, simp length-set (l .inv .2), rw (c .before .high-byte .ensures, c .low-byte .ensures, c .before .before .code-at .ensures) (written-more (a .codes .now) (a .out .now) (l .out) (l .g) (l .inv .3) (omega arith)))
+    (search needs, search needs, simp length-set (l .inv .2), rw (c .before .byte-of .ensures, c .byte-of2 .ensures, c .before .before .code-at .ensures, high-of, low-of) (written-more (a .codes .now) (a .out .now) (l .out) (l .g) (l .inv .3) (omega arith)))
 
 returns : tie.Need-returns Inv-loop μ-loop
 returns c =
@@ -41,7 +41,6 @@ write-resolution-spec =
     μ-loop
     loop-holds
     (λ c κs. search needs)
-    (λ c. search needs)
     (λ c. search needs)
     (λ c. search needs)
     (λ c κs. search needs)

@@ -8,8 +8,9 @@ unfolding image1
 returns c =
     let b = c .before in
     let d = b .before in
-    rw (← c .image-end .ensures .0, ← b .bad-counts .ensures, ← d .header .ensures)
+    rw (c .bad-counts .ensures, b .number-at .ensures, d .starts-of .ensures, d .before .counts-of .ensures)
 
 pub bad-image-spec : {M : Type 1} → statement M
 bad-image-spec =
-    tie.close (tie.spec (λ c κs. search needs) (λ c κs. search needs) (λ c κs. search needs) (λ c. search needs) returns)
+    tie.close
+    (tie.spec (λ c κs. search needs) (λ c κs. search needs) (λ c κs. search needs) (λ c κs. search needs) (λ c. search needs) returns)

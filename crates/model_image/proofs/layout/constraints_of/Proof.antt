@@ -1,13 +1,14 @@
-use Rattle.model_image.specs.Laid.{Laid}
-use Rattle.model_image.proofs.Laid.{cut}
+use native.Mathlib.Omega.{arith}
+use Rattle.model_image.proofs.Laid.{opened, cut}
 use borrow.Author.Needs.{needs}
 use Rattle.model_image.proofs.layout.constraints_of.Statement.{statement}
 use Rattle.model_image.proofs.layout.constraints_of.Tie as tie
 
+within : tie.Need-sub-part-of
+within c = let l = opened (c .before .before .pre) in omega (arith, l .constraints, l .children)
+
 returns : tie.Need-returns
-unfolding Laid
-returns c = let l = c .before .before .before .pre in cut l (l .constraints) (l .children) (l .constraints-most)
+returns c = let l = opened (c .before .before .before .pre) in cut l (l .constraints) (l .children) (l .constraints-most) (c .part-of .ensures)
 
 pub constraints-of-spec : {M : Type 1} → statement M
-unfolding Laid
-constraints-of-spec = tie.close (tie.spec (λ c. search needs) (λ c. search needs) (λ c. search needs) (λ c. search needs) (λ c. search needs) returns)
+constraints-of-spec = tie.close (tie.spec within (λ c κs. search needs) returns)

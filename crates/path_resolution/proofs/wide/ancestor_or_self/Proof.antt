@@ -1,7 +1,7 @@
 use mathlib.Core.Path.{sym}
 use borrow.Author.Tests.{eq-eqb}
 use Rattle.csdl.specs.Find.{ancestorOrSelf}
-use Rattle.lookup.proofs.Past.{ancestor-or-self-past, ancestor-or-self-high}
+use Rattle.type_hierarchy.proofs.Past.{ancestor-or-self-past, ancestor-or-self-high}
 use borrow.Author.Needs.{needs}
 use Rattle.path_resolution.proofs.wide.ancestor_or_self.Statement.{statement}
 use Rattle.path_resolution.proofs.wide.ancestor_or_self.Tie as tie

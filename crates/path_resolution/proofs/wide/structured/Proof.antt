@@ -1,5 +1,5 @@
 use mathlib.Core.Path.{sym}
-use Rattle.lookup.proofs.Past.{structured-past}
+use Rattle.type_hierarchy.proofs.Past.{structured-past}
 use borrow.Author.Needs.{needs}
 use Rattle.path_resolution.proofs.wide.structured.Statement.{statement}
 use Rattle.path_resolution.proofs.wide.structured.Tie as tie

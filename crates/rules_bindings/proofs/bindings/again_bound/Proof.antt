@@ -12,39 +12,15 @@ use borrow.Author.Needs.{needs}
 use Rattle.rules_bindings.proofs.bindings.again_bound.Statement.{statement}
 use Rattle.rules_bindings.proofs.bindings.again_bound.Tie as tie
 
-mul-if1 : tie.Need-mul-if1
-mul-if1 c = search needs
-
-shared-slice-read-if1 : tie.Need-shared-slice-read-if1
-shared-slice-read-if1 c = search needs
-
-mul-if1-2 : tie.Need-mul-if1-2
-mul-if1-2 c = search needs
-
-shared-slice-read-if1-2 : tie.Need-shared-slice-read-if1-2
-shared-slice-read-if1-2 c = search needs
-
 returns : tie.Need-returns
 returns c =
     let s = c .before .before .before .before .before .before .before in
     let a = s .args in
     bindings-apart _ (a .j) (a .b) (fingerprints-apart _ (a .b + 1) (a .fingerprints .now) (s .pre .1) (a .j) (a .b) (omega (arith, s .pre .0)) (omega arith) (c .if1 .taken))
 
-binding-child-requires : tie.Need-binding-child-requires
-binding-child-requires c κs = search needs
-
-binding-child-requires-2 : tie.Need-binding-child-requires-2
-binding-child-requires-2 c κs = search needs
-
 returns-2 : tie.Need-returns-2
 unfolding modelOf againBound
 returns-2 c = rw (← c .before .before .binding-child .ensures .0, ← c .before .binding-child2 .ensures .0, ne-eqb _ _ (c .if2 .taken))
-
-binding-path-requires : tie.Need-binding-path-requires
-binding-path-requires c κs = search needs
-
-binding-path-requires-2 : tie.Need-binding-path-requires-2
-binding-path-requires-2 c κs = search needs
 
 returns-3 : tie.Need-returns-3
 unfolding modelOf againBound
@@ -52,9 +28,6 @@ returns-3 c =
     let p = c .before .before .before in
     rw (← p .before .before .before .binding-child .ensures .0, ← p .before .before .binding-child2 .ensures .0, eq-eqb _ _ (p .before .if2 .left), ← p .binding-path .ensures .1, ← c .before .before .binding-path2 .ensures .1)
     (sym (same-counts _ _ _ _ _ (c .if3 .taken)))
-
-same-segments-requires : tie.Need-same-segments-requires
-same-segments-requires c κs = search needs
 
 returns-4 : tie.Need-returns-4
 unfolding modelOf againBound segmentAt
@@ -68,16 +41,16 @@ pub again-bound-spec : {M : Type 1} → statement M
 again-bound-spec =
     tie.close
     (tie.spec
-    mul-if1
-    shared-slice-read-if1
-    mul-if1-2
-    shared-slice-read-if1-2
+    (λ c. search needs)
+    (λ c. search needs)
+    (λ c. search needs)
+    (λ c. search needs)
     returns
-    binding-child-requires
-    binding-child-requires-2
+    (λ c κs. search needs)
+    (λ c κs. search needs)
     returns-2
-    binding-path-requires
-    binding-path-requires-2
+    (λ c κs. search needs)
+    (λ c κs. search needs)
     returns-3
-    same-segments-requires
+    (λ c κs. search needs)
     returns-4)

@@ -1,6 +1,7 @@
 use borrow.Author.Needs.{needs}
 use Prim.Native.Nat.{_-_, _≤_}
-use mathlib.Core.Path.{_≡_, refl, sym}
+use mathlib.Core.Path.{_≡_, refl, sym, _∙_, ap₂}
+use mathlib.Core.Bool.{_||_}
 use mathlib.Core.List.{[]}
 use lib.ListN.{length, length-set}
 use native.Mathlib.Omega.{arith}
@@ -31,15 +32,25 @@ binding-again-requires c κs =
     fingerprinted-more _ (l .b) (l .fingerprints) _ (omega (arith, l .inv .0, l .inv .1)) (c .before .before .binding-fingerprint .ensures) (l .inv .2)
 
 returns : tie.Need-returns Inv-loop μ-loop
-returns c = rw (← c .before .before .before .before .before .before .before .binding-count .ensures .0) (first-hit _ _ _ _ (c .before .before .before .before .before .before .loop .inv .3) (c .before .before .before .before .before .loop-test .taken) (rw (c .before .before .before .binding-misled .ensures, c .before .binding-again .ensures) (binding-split _ _ _ _ _ _ _ _)) (c .if1 .taken))
+returns c =
+    let l = c .before .before .before .before .before .before in
+    let a = l .before .before .before .before .before .before .before .before .before .args in
+    rw (← l .before .binding-count .ensures .0)
+    (first-hit _ _ _ _ (l .loop .inv .3) (c .before .before .before .before .before .loop-test .taken)
+    (ap₂ _||_ (c .before .before .before .binding-misled .ensures) (c .before .binding-again .ensures)
+    ∙ binding-split (a .types .now) (a .properties .now) (a .children .now) (a .bindings .now) (a .segments .now) (a .names .now) (a .codes .now) (l .loop .b))
+    (c .if1 .taken))
 
 loop-again : tie.Need-loop-again Inv-loop μ-loop
 loop-again c =
-    let l = c .before .before .before .before .before .before .loop in (
+    let k = c .before .before .before .before .before .before in
+    let a = k .before .before .before .before .before .before .before .before .before .args in
+    let l = k .loop in (
       l .inv .0,
       simp length-set (l .inv .1),
       fingerprinted-more _ (l .b) (l .fingerprints) _ (omega (arith, l .inv .0, l .inv .1)) (c .before .before .before .before .binding-fingerprint .ensures) (l .inv .2),
-      first-next _ _ _ _ (l .inv .3) (c .before .before .before .before .before .loop-test .taken) (rw (c .before .before .before .binding-misled .ensures, c .before .binding-again .ensures) (binding-split _ _ _ _ _ _ _ _)) (c .if1 .left),
+      first-next _ _ _ _ (l .inv .3) (c .before .before .before .before .before .loop-test .taken) (ap₂ _||_ (c .before .before .before .binding-misled .ensures) (c .before .binding-again .ensures)
+          ∙ binding-split (a .types .now) (a .properties .now) (a .children .now) (a .bindings .now) (a .segments .now) (a .names .now) (a .codes .now) (l .b)) (c .if1 .left),
     )
 
 returns-2 : tie.Need-returns-2 Inv-loop μ-loop

@@ -5,7 +5,7 @@ use Rattle.rules_bindings.proofs.bindings.target_under_set.Tie as tie
 
 returns : tie.Need-returns
 unfolding modelOf
-returns c = cc
+returns c = rw (c .child-singleton .ensures, c .before .binding-target .ensures .0, c .before .before .before .binding-target-path .ensures .1)
 
 pub target-under-set-spec : {M : Type 1} → statement M
 target-under-set-spec =

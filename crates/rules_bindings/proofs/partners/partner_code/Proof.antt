@@ -7,7 +7,7 @@ use Rattle.rules_bindings.proofs.partners.partner_code.Tie as tie
 
 returns : tie.Need-returns
 unfolding modelOf pathOf partnerLast
-returns c = cc
+returns c = rw (c .last-code .ensures, c .before .before .run-of .ensures, c .before .before .before .property-partner .ensures .0, c .before .before .before .property-partner .ensures .1)
 
 pub partner-code-spec : {M : Type 1} → statement M
 partner-code-spec =

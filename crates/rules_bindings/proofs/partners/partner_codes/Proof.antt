@@ -5,7 +5,7 @@ use Rattle.rules_bindings.proofs.partners.partner_codes.Tie as tie
 
 returns : tie.Need-returns
 unfolding partnerCodes
-returns c = cc
+returns c = rw (c .any-code .ensures, c .before .less-one .ensures, c .before .before .code-test .ensures, c .before .before .before .last-code .ensures)
 
 pub partner-codes-spec : {M : Type 1} → statement M
 partner-codes-spec =

@@ -21,18 +21,6 @@ abbrev μ-loop : tie.MeasureT-loop
 loop-holds : tie.Need-loop-holds Inv-loop μ-loop
 loop-holds c = (digest-start _ _ _, search needs, search needs, search needs, search needs)
 
-add-segment-digest : tie.Need-add-segment-digest Inv-loop μ-loop
-add-segment-digest c = search needs
-
-segment-digest-requires : tie.Need-segment-digest-requires Inv-loop μ-loop
-segment-digest-requires c κs = search needs
-
-add-i : tie.Need-add-i Inv-loop μ-loop
-add-i c = search needs
-
-loop-less : tie.Need-loop-less Inv-loop μ-loop
-loop-less c = search needs
-
 loop-again : tie.Need-loop-again Inv-loop μ-loop
 loop-again c =
     let l = c .before .before in
@@ -52,9 +40,9 @@ path-digest-spec =
     Inv-loop
     μ-loop
     loop-holds
-    add-segment-digest
-    segment-digest-requires
-    add-i
-    loop-less
+    (λ c. search needs)
+    (λ c κs. search needs)
+    (λ c. search needs)
+    (λ c. search needs)
     loop-again
     returns)

@@ -6,30 +6,9 @@ use borrow.Author.Needs.{needs}
 use Rattle.rules_bindings.proofs.same.segment_digest.Statement.{statement}
 use Rattle.rules_bindings.proofs.same.segment_digest.Tie as tie
 
-segment-cast-requires : tie.Need-segment-cast-requires
-segment-cast-requires c κs = search needs
-
-mul-result : tie.Need-mul-result
-mul-result c = search needs
-
-segment-type-requires : tie.Need-segment-type-requires
-segment-type-requires c κs = search needs
-
-cast-result : tie.Need-cast-result
-cast-result c = search needs
-
-add-result : tie.Need-add-result
-add-result c = search needs
-
 returns : tie.Need-returns
 unfolding modelOf segmentAt segmentDigest
 returns c = (rw (← c .before .before .segment-cast .ensures, c .before .if1 .taken, ← c .segment-type .ensures .0), omega arith)
-
-segment-text-requires : tie.Need-segment-text-requires
-segment-text-requires c κs = search needs
-
-digest-requires : tie.Need-digest-requires
-digest-requires c κs = search needs
 
 returns-2 : tie.Need-returns-2
 unfolding modelOf segmentAt segmentDigest
@@ -39,12 +18,12 @@ pub segment-digest-spec : {M : Type 1} → statement M
 segment-digest-spec =
     tie.close
     (tie.spec
-    segment-cast-requires
-    mul-result
-    segment-type-requires
-    cast-result
-    add-result
+    (λ c κs. search needs)
+    (λ c. search needs)
+    (λ c κs. search needs)
+    (λ c. search needs)
+    (λ c. search needs)
     returns
-    segment-text-requires
-    digest-requires
+    (λ c κs. search needs)
+    (λ c κs. search needs)
     returns-2)

@@ -1,8 +1,8 @@
 use Rattle.csdl.specs.Model.{modelOf}
 use Rattle.csdl.specs.Find.{complexStep, ofKind}
-use Rattle.csdl.specs.Paths.{constraintStep, sameShape, bothComplex}
+use Rattle.csdl.specs.Paths.{constraintStep, sameShape, bothComplex, otherShape, otherNullable}
 use Rattle.path_steps.specs.Steps.{stepTest}
-use Rattle.rules_keys.specs.Constraints.{otherShape, otherNullable, constraintEnds, constraintCodes, constraintFails, constraintEnd, constraintCoded}
+use Rattle.rules_keys.specs.Constraints.{constraintEnds, constraintCodes, constraintFails, constraintEnd, constraintCoded}
 use borrow.Author.Needs.{needs}
 use Rattle.rules_keys.proofs.constraints.constraint_16.Statement.{statement}
 use Rattle.rules_keys.proofs.constraints.constraint_16.Tie as tie

@@ -8,4 +8,4 @@ unfolding constraintCodes
 returns c = cc
 
 pub constraint-codes-spec : {M : Type 1} → statement M
-constraint-codes-spec = tie.close (tie.spec (λ c κs. search needs) (λ c κs. search needs) returns)
+constraint-codes-spec = tie.close (tie.spec (λ c κs. search needs) (λ c κs. search needs) (λ c κs. search needs) returns)

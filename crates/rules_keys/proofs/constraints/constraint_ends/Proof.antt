@@ -1,6 +1,6 @@
 use Rattle.csdl.specs.Model.{modelOf}
-use Rattle.csdl.specs.Paths.{sameShape}
-use Rattle.rules_keys.specs.Constraints.{otherShape, otherNullable, constraintEnds}
+use Rattle.csdl.specs.Paths.{sameShape, otherShape, otherNullable}
+use Rattle.rules_keys.specs.Constraints.{constraintEnds}
 use borrow.Author.Needs.{needs}
 use Rattle.rules_keys.proofs.constraints.constraint_ends.Statement.{statement}
 use Rattle.rules_keys.proofs.constraints.constraint_ends.Tie as tie

@@ -1,5 +1,5 @@
 use Rattle.csdl.specs.Model.{modelOf}
-use Rattle.rules_keys.specs.Constraints.{otherNullable}
+use Rattle.csdl.specs.Paths.{otherNullable}
 use Rattle.rules_keys.proofs.Orders.{unlike-true, unlike-false}
 use borrow.Author.Needs.{needs}
 use Rattle.rules_keys.proofs.constraints.other_nullable.Statement.{statement}

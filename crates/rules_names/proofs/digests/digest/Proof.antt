@@ -1,51 +1,35 @@
 use borrow.Author.Needs.{needs}
-use Prim.Native.Nat.{_-_, _≤_, _<_}
-use mathlib.Core.Path.{_≡_, refl, sym, _∙_}
+use Prim.Native.Nat.{ℕ, _+_, _-_, _/_, _≤_, _<_}
+use mathlib.Core.Path.{_≡_, refl, sym, _∙_, ap}
 use native.Mathlib.Omega.{arith}
-use lib.ListN.{length, drop}
-use Rattle.rules_names.specs.Digests.{digestFrom}
-use Rattle.rules_names.proofs.Fingerprints.{digest-next, digest-end}
+use lib.ListN.{length}
+use Rattle.rules_names.specs.Digests.{digestTo, digestFrom}
+use Rattle.rules_names.proofs.Fingerprints.{digest-next}
 use Rattle.rules_names.proofs.digests.digest.Statement.{statement}
 use Rattle.rules_names.proofs.digests.digest.Tie as tie
 
 abbrev Inv-loop : tie.InvT-loop
-Inv-loop d s e₀ i₀ e i = (i ≤ length s) × (e < 4294967296) × (digestFrom d s ≡ digestFrom e (drop i s))
+Inv-loop d s n e₀ i₀ e i = (i ≤ n) × (n ≡ (length s + 7) / 8) × (e < 4294967296) × (e ≡ digestTo d s i)
 
 abbrev μ-loop : tie.MeasureT-loop
-μ-loop d s e₀ i₀ e i = length s - i
+μ-loop d s n e₀ i₀ e i = n - i
 
 loop-holds : tie.Need-loop-holds Inv-loop μ-loop
-loop-holds c = (search needs, search needs, refl)
-
-mul-e : tie.Need-mul-e Inv-loop μ-loop
-mul-e c = search needs
-
-shared-slice-read-e : tie.Need-shared-slice-read-e Inv-loop μ-loop
-shared-slice-read-e c = search needs
-
-cast-e : tie.Need-cast-e Inv-loop μ-loop
-cast-e c = omega (arith, c .shared-slice-known .given (c .before .before .loop .i))
-
-add-e : tie.Need-add-e Inv-loop μ-loop
-add-e c = omega (arith, c .shared-slice-known .given (c .before .before .loop .i), c .before .before .loop .inv .1)
-
-add-i : tie.Need-add-i Inv-loop μ-loop
-add-i c = search needs
-
-loop-less : tie.Need-loop-less Inv-loop μ-loop
-loop-less c = search needs
+unfolding digestTo
+loop-holds c = (search needs, search needs, search needs, refl)
 
 loop-again : tie.Need-loop-again Inv-loop μ-loop
 loop-again c =
     let l = c .before .before .loop in
-    let s = c .before .before .before .args .s .now in
-    (search needs, omega arith, l .inv .2 ∙ digest-next s (l .e) (l .i) (c .before .loop-test .taken))
+    (search needs, search needs, omega arith, digest-next _ _ _ _ _ (l .inv .3) (c .eight-at .ensures))
 
 returns : tie.Need-returns Inv-loop μ-loop
+unfolding digestFrom
 returns c =
     let l = c .before .loop in
-    let s = c .before .before .args .s .now in
-    (sym (l .inv .2 ∙ digest-end s (l .e) (l .i) (c .loop-test .left)), l .inv .1)
+    let a = c .before .before .before .args in
+    let z : l .i ≡ (length (a .s .now) + 7) / 8 = omega arith in
+    (l .inv .3 ∙ ap (λ (k : ℕ). digestTo (a .d) (a .s .now) k) z, l .inv .2)
 
 pub digest-spec : {M : Type 1} → statement M
 digest-spec =
@@ -53,12 +37,15 @@ digest-spec =
     (tie.spec
     Inv-loop
     μ-loop
+    (λ c. search needs)
     loop-holds
-    mul-e
-    shared-slice-read-e
-    cast-e
-    add-e
-    add-i
-    loop-less
+    (λ c. search needs)
+    (λ c κs. search needs)
+    (λ c. search needs)
+    (λ c. search needs)
+    (λ c. search needs)
+    (λ c. search needs)
+    (λ c. search needs)
+    (λ c. search needs)
     loop-again
     returns)

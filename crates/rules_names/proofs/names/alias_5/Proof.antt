@@ -9,4 +9,4 @@ unfolding alias5a name5a modelOf
 returns c = rw (← c .name-5 .ensures)
 
 pub alias-5-spec : {M : Type 1} → statement M
-alias-5-spec = tie.close (tie.spec (λ c κs. search needs) returns)
+alias-5-spec = tie.close (tie.spec (λ c κs. c .before .before .pre) returns)

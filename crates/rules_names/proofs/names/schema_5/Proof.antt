@@ -4,6 +4,9 @@ use borrow.Author.Needs.{needs}
 use Rattle.rules_names.proofs.names.schema_5.Statement.{statement}
 use Rattle.rules_names.proofs.names.schema_5.Tie as tie
 
+alias-5-requires : tie.Need-alias-5-requires
+alias-5-requires c κs = (c .schema-alias .ensures .2, c .before .before .before .before .before .before .pre)
+
 returns : tie.Need-returns
 unfolding rule5 namespace5b alias5a name5a modelOf
 returns c =
@@ -26,5 +29,5 @@ schema-5-spec =
     (λ c κs. search needs)
     (λ c κs. search needs)
     (λ c κs. search needs)
-    (λ c κs. search needs)
+    alias-5-requires
     returns)

@@ -2,8 +2,8 @@ use Prim.Native.Nat.{_-_, _≤_}
 use mathlib.Core.Path.{_≡_}
 use native.Mathlib.Omega.{arith}
 use lib.ListN.{length}
-use Rattle.lookup.specs.Sets.{setOf, stepOf}
-use Rattle.lookup.proofs.SetLaws.{set-start, set-next}
+use Rattle.type_hierarchy.specs.Sets.{setOf, stepOf}
+use Rattle.type_hierarchy.proofs.SetLaws.{set-start, set-next}
 use borrow.Author.Needs.{needs}
 use Rattle.rules_required_cycle.proofs.cycles.in_own_row.Statement.{statement}
 use Rattle.rules_required_cycle.proofs.cycles.in_own_row.Tie as tie
@@ -26,7 +26,7 @@ loop-again c =
       search needs,
       search needs,
       search needs,
-      set-next (λ b. stepOf (a .rows .now) b b) (l .a) (c .before .in-set .result) (l .set) (c .mark-of .result) (omega arith) (l .inv .3) (c .before .in-set .ensures) (c .mark-of .ensures),
+      set-next (λ b. stepOf (a .rows .now) b b) (l .a) (c .before .in-set .result) (l .set) (c .one-if .result) (omega arith) (l .inv .3) (c .before .in-set .ensures) (c .one-if .ensures),
     )
 
 returns : tie.Need-returns Inv-loop μ-loop
@@ -46,6 +46,7 @@ in-own-row-spec =
     (λ c. search needs)
     (λ c κs. search needs)
     (λ c κs. search needs)
+    (λ c. search needs)
     (λ c. search needs)
     (λ c. search needs)
     (λ c. search needs)

@@ -1,5 +1,5 @@
 use mathlib.Core.Path.{_∙_}
-use Rattle.lookup.proofs.SetLaws.{set-same}
+use Rattle.type_hierarchy.proofs.SetLaws.{set-same}
 use borrow.Author.Needs.{needs}
 use Rattle.rules_required_cycle.proofs.cycles.on_cycles.Statement.{statement}
 use Rattle.rules_required_cycle.proofs.cycles.on_cycles.Tie as tie

@@ -1,8 +1,8 @@
 use mathlib.Core.Path.{_≡_, sym, _∙_}
 use mathlib.Core.Bool.{true, false, or-false}
 use lib.ListN.{getD}
-use Rattle.lookup.specs.Sets.{member}
-use Rattle.lookup.proofs.SetLaws.{member-or}
+use Rattle.type_hierarchy.specs.Sets.{member}
+use Rattle.type_hierarchy.proofs.SetLaws.{member-or}
 use borrow.Author.Needs.{needs}
 use Rattle.rules_required_cycle.proofs.cycles.with_row.Statement.{statement}
 use Rattle.rules_required_cycle.proofs.cycles.with_row.Tie as tie

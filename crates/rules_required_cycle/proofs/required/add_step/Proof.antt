@@ -5,7 +5,7 @@ use mathlib.Core.Bool.{_&&_}
 use native.Mathlib.Omega.{arith}
 use lib.Dec.{eqb}
 use lib.ListN.{length, getD, length-set}
-use Rattle.lookup.specs.Sets.{member}
+use Rattle.type_hierarchy.specs.Sets.{member}
 use Rattle.rules_required_cycle.proofs.Stepping.{Adding, adding-start, adding-more, adding-all}
 use Rattle.rules_required_cycle.proofs.required.add_step.Statement.{statement}
 use Rattle.rules_required_cycle.proofs.required.add_step.Tie as tie

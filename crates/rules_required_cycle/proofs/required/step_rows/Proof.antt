@@ -9,8 +9,8 @@ use Rattle.packed.proofs.Laws.{field-lt}
 use Rattle.csdl.specs.Search.{anyFrom}
 use Rattle.csdl.specs.Model.{modelOf}
 use Rattle.csdl.specs.Find.{ancestor, ancestorOrSelf}
-use Rattle.lookup.specs.Sets.{member, Holds}
-use Rattle.lookup.proofs.SetLaws.{member-none}
+use Rattle.type_hierarchy.specs.Sets.{member, Members}
+use Rattle.type_hierarchy.proofs.SetLaws.{member-none}
 use Rattle.rules_required_cycle.specs.Steps.{leads}
 use Rattle.rules_required_cycle.proofs.Gather.{gather-start, gather-next}
 use Rattle.rules_required_cycle.proofs.Steps.{steps-lead}
@@ -20,7 +20,7 @@ use Rattle.rules_required_cycle.proofs.required.step_rows.Tie as tie
 abbrev Inv-loop : tie.InvT-loop
 Inv-loop types properties lines all n rows₀ p₀ rows p =
     (length types ≤ 384) × (p ≤ n) × (n ≤ 512) × (all ≤ 64) × (length lines ≡ 64) × (length rows ≡ 64)
-    × ((t : ℕ) → t < all → Holds 64 (getD rows t 0) (λ u. anyFrom (λ k. leads (modelOf [] types properties [] [] [] [] [] []) (getD lines t 0) u k) 0 p))
+    × ((t : ℕ) → t < all → Members 64 (getD rows t 0) (λ u. anyFrom (λ k. leads (modelOf [] types properties [] [] [] [] [] []) (getD lines t 0) u k) 0 p))
 
 abbrev μ-loop : tie.MeasureT-loop
 μ-loop types properties lines all n rows₀ p₀ rows p = n - p

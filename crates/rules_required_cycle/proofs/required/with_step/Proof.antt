@@ -1,6 +1,6 @@
 use mathlib.Core.Path.{_≡_, sym, _∙_}
 use mathlib.Core.Bool.{true, false, and-true, and-false, or-false}
-use Rattle.lookup.specs.Sets.{member}
+use Rattle.type_hierarchy.specs.Sets.{member}
 use borrow.Author.Needs.{needs}
 use Rattle.rules_required_cycle.proofs.required.with_step.Statement.{statement}
 use Rattle.rules_required_cycle.proofs.required.with_step.Tie as tie

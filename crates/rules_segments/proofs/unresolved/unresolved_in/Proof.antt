@@ -2,7 +2,6 @@ use mathlib.Core.Path.{_≡_, sym, _∙_}
 use native.Mathlib.Omega.{arith}
 use Rattle.csdl.specs.Image.{modelIn}
 use Rattle.csdl.specs.Path.{pathOf}
-use Rattle.path_kinds.specs.Kinds.{kindOf}
 use Rattle.rules_segments.proofs.Keeping.{nothing-kept}
 use Rattle.rules_segments.proofs.Least.{empty-path}
 use Rattle.rules_segments.proofs.Resolved.{path-lowest, run-room, run-step}
@@ -13,15 +12,15 @@ use Rattle.rules_segments.proofs.unresolved.unresolved_in.Tie as tie
 returns : tie.Need-returns
 returns c =
     let a = c .before .before .before .before .before .before .args in
-    let empty : pathOf (modelIn (a .image .now)) (kindOf (a .holder .kind)) (a .holder .r) .count ≡ 0 = sym (c .before .path-in .ensures .1) ∙ c .if1 .taken in
-    (empty-path (modelIn (a .image .now)) (kindOf (a .holder .kind)) (a .holder .r) (a .top) empty, nothing-kept (modelIn (a .image .now)) (kindOf (a .holder .kind)) (a .holder .r) (a .codes .now) empty)
+    let empty : pathOf (modelIn (a .image .now)) (a .holder .kind) (a .holder .r) .count ≡ 0 = sym (c .before .path-in .ensures .1) ∙ c .if1 .taken in
+    (empty-path (modelIn (a .image .now)) (a .holder .kind) (a .holder .r) (a .top) empty, nothing-kept (modelIn (a .image .now)) (a .holder .kind) (a .holder .r) (a .codes .now) empty)
 
 keep-run-requires : tie.Need-keep-run-requires
 keep-run-requires c κs =
     let e = c .before .before .before .before .before .before .before .before .before .before .before in
     let a = e .args in
     let t = c .before .before .before .resolve-in in
-    let room = run-room (modelIn (a .image .now)) (kindOf (a .holder .kind)) (a .holder .r) _ _ _ (t .result .taken) (t .result .end) (t .result .codes) (c .before .before .before .before .start-in .ensures .0) (c .before .before .before .before .before .before .path-in .ensures .0) (c .before .before .before .before .before .before .path-in .ensures .1) (t .ensures) (e .pre .2) (e .pre .3) in
+    let room = run-room (modelIn (a .image .now)) (a .holder .kind) (a .holder .r) _ _ _ (t .result .taken) (t .result .end) (t .result .codes) (c .before .before .before .before .start-in .ensures .0) (c .before .before .before .before .before .before .path-in .ensures .0) (c .before .before .before .before .before .before .path-in .ensures .1) (t .ensures) (e .pre .2) (e .pre .3) in
     (c .before .before .before .before .before .before .path-in .ensures .3, search needs, omega (arith, room, e .pre .4))
 
 returns-2 : tie.Need-returns-2
@@ -29,7 +28,7 @@ returns-2 c =
     let k = c .before .before .before in
     let a = k .before .before .before .before .before .before .before .before .before .before .before .before .args in
     let t = k .before .before .before .before .resolve-in in
-    (rw (c .unresolved-at .ensures) (path-lowest (modelIn (a .image .now)) (kindOf (a .holder .kind)) (a .holder .r) _ _ _ (t .result .taken) (t .result .end) (t .result .codes) (k .before .before .before .before .before .start-in .ensures .0) (k .before .before .before .before .before .before .before .path-in .ensures .0) (k .before .before .before .before .before .before .before .path-in .ensures .1) (t .ensures) (a .top)), run-step (modelIn (a .image .now)) (kindOf (a .holder .kind)) (a .holder .r) _ _ _ (t .result .taken) (t .result .end) (t .result .codes) (k .before .before .before .before .before .start-in .ensures .0) (k .before .before .before .before .before .before .before .path-in .ensures .0) (k .before .before .before .before .before .before .before .path-in .ensures .1) (t .ensures) (a .codes .now) _ (k .keep-run .ensures))
+    (rw (c .unresolved-at .ensures) (path-lowest (modelIn (a .image .now)) (a .holder .kind) (a .holder .r) _ _ _ (t .result .taken) (t .result .end) (t .result .codes) (k .before .before .before .before .before .start-in .ensures .0) (k .before .before .before .before .before .before .before .path-in .ensures .0) (k .before .before .before .before .before .before .before .path-in .ensures .1) (t .ensures) (a .top)), run-step (modelIn (a .image .now)) (a .holder .kind) (a .holder .r) _ _ _ (t .result .taken) (t .result .end) (t .result .codes) (k .before .before .before .before .before .start-in .ensures .0) (k .before .before .before .before .before .before .before .path-in .ensures .0) (k .before .before .before .before .before .before .before .path-in .ensures .1) (t .ensures) (a .codes .now) _ (k .keep-run .ensures))
 
 pub unresolved-in-spec : {M : Type 1} → statement M
 unresolved-in-spec =

@@ -4,30 +4,6 @@ use borrow.Author.Needs.{needs}
 use Rattle.sheet.proofs.line.refused_line.Statement.{statement}
 use Rattle.sheet.proofs.line.refused_line.Tie as tie
 
-slice-aggregate-put-word : tie.Need-slice-aggregate-put-word
-slice-aggregate-put-word c = search needs
-
-put-word-requires : tie.Need-put-word-requires
-put-word-requires c κs = search needs
-
-put-decimal-requires : tie.Need-put-decimal-requires
-put-decimal-requires c κs = search needs
-
-slice-aggregate-put-word-2 : tie.Need-slice-aggregate-put-word-2
-slice-aggregate-put-word-2 c = search needs
-
-put-word-requires-2 : tie.Need-put-word-requires-2
-put-word-requires-2 c κs = search needs
-
-put-decimal-requires-2 : tie.Need-put-decimal-requires-2
-put-decimal-requires-2 c κs = search needs
-
-put-byte-requires : tie.Need-put-byte-requires
-put-byte-requires c κs = search needs
-
-same-length : tie.Need-same-length
-same-length c = search needs
-
 returns : tie.Need-returns
 unfolding refusedLine refused place
 returns c =
@@ -41,12 +17,12 @@ pub refused-line-spec : {M : Type 1} → statement M
 refused-line-spec =
     tie.close
     (tie.spec
-    slice-aggregate-put-word
-    put-word-requires
-    put-decimal-requires
-    slice-aggregate-put-word-2
-    put-word-requires-2
-    put-decimal-requires-2
-    put-byte-requires
-    same-length
+    (λ c. search needs)
+    (λ c κs. search needs)
+    (λ c κs. search needs)
+    (λ c. search needs)
+    (λ c κs. search needs)
+    (λ c κs. search needs)
+    (λ c κs. search needs)
+    (λ c. search needs)
     returns)

@@ -20,30 +20,12 @@ loop-holds : tie.Need-loop-holds Inv-loop μ-loop
 unfolding codeLines
 loop-holds c = (search needs, search needs, search needs, search needs, put-none _ _ (omega arith))
 
-add-segment-line : tie.Need-add-segment-line Inv-loop μ-loop
-add-segment-line c = search needs
-
-code-at-requires : tie.Need-code-at-requires Inv-loop μ-loop
-code-at-requires c κs = search needs
-
-segment-line-requires : tie.Need-segment-line-requires Inv-loop μ-loop
-segment-line-requires c κs = search needs
-
-add-g : tie.Need-add-g Inv-loop μ-loop
-add-g c = search needs
-
-loop-less : tie.Need-loop-less Inv-loop μ-loop
-loop-less c = search needs
-
 loop-again : tie.Need-loop-again Inv-loop μ-loop
 unfolding codeLines
 loop-again c =
     let l = c .before .before .before .before .before .before .loop in
     let p = c .before .before .segment-line .ensures in
     (search needs, search needs, search needs, omega (arith, p .1, l .inv .3), rw (add-one, ← c .before .before .before .before .code-at .ensures) (join (l .inv .4) (p .0)))
-
-same-length : tie.Need-same-length Inv-loop μ-loop
-same-length c = search needs
 
 returns : tie.Need-returns Inv-loop μ-loop
 returns c =
@@ -59,11 +41,11 @@ segment-lines-spec =
     Inv-loop
     μ-loop
     loop-holds
-    add-segment-line
-    code-at-requires
-    segment-line-requires
-    add-g
-    loop-less
+    (λ c. search needs)
+    (λ c κs. search needs)
+    (λ c κs. search needs)
+    (λ c. search needs)
+    (λ c. search needs)
     loop-again
-    same-length
+    (λ c. search needs)
     returns)

@@ -9,22 +9,10 @@ use borrow.Author.Needs.{needs}
 use Rattle.sheet.proofs.text.put_decimal.Statement.{statement}
 use Rattle.sheet.proofs.text.put_decimal.Tie as tie
 
-decimal-requires : tie.Need-decimal-requires
-decimal-requires c κs = search needs
-
-array-share-prefix-digits : tie.Need-array-share-prefix-digits
-array-share-prefix-digits c = search needs
-
-slice-aggregate-put-word : tie.Need-slice-aggregate-put-word
-slice-aggregate-put-word c = search needs
-
 put-word-requires : tie.Need-put-word-requires
 put-word-requires c κs =
     let d = c .before .before .decimal in
     let s = c .before .before .before .before .before in omega (arith, five (s .args .n) (d .result) (omega arith) (d .ensures .1 .0 .2), d .ensures .0 .1, s .pre)
-
-same-length : tie.Need-same-length
-same-length c = search needs
 
 returns : tie.Need-returns
 unfolding decimal
@@ -40,9 +28,9 @@ pub put-decimal-spec : {M : Type 1} → statement M
 put-decimal-spec =
     tie.close
     (tie.spec
-    decimal-requires
-    array-share-prefix-digits
-    slice-aggregate-put-word
+    (λ c κs. search needs)
+    (λ c. search needs)
+    (λ c. search needs)
     put-word-requires
-    same-length
+    (λ c. search needs)
     returns)

@@ -5,9 +5,9 @@ use mathlib.Core.Logic.{⊎-elim}
 use native.Mathlib.Omega.{arith}
 use lib.ListN.{length, getD}
 use Rattle.csdl.specs.Tables.{typeBase, typeCount, propertyCount, propertyOwner}
-use Rattle.lookup.specs.Near.{leftAt, only}
-use Rattle.lookup.specs.Nearness.{nearnessOf}
-use Rattle.lookup.proofs.Climbing.{nearness-size, nearness-at}
+use Rattle.type_hierarchy.specs.Near.{leftAt, only}
+use Rattle.type_hierarchy.specs.Nearness.{nearnessOf}
+use Rattle.type_hierarchy.proofs.Climbing.{nearness-size, nearness-at}
 use Rattle.type_names.proofs.Meanings.{Meant, meant-start, meant-nearer, meant-farther, meaning}
 use borrow.Author.Needs.{needs}
 use Rattle.type_names.proofs.members.meaning_of.Statement.{statement}

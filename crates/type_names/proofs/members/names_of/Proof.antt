@@ -12,7 +12,7 @@ use Rattle.csdl.specs.Tables.{propertyCount}
 use Rattle.csdl.specs.Model.{modelOf}
 use Rattle.csdl.specs.Find.{isNameOf}
 use Rattle.name_classes.specs.Classes.{nameOf, Ranked}
-use Rattle.type_names.specs.Wide.{HoldsWide}
+use Rattle.type_names.specs.Wide.{MembersWide}
 use Rattle.type_names.specs.Nearest.{Meaning}
 use Rattle.type_names.proofs.WideLaws.{wide-none, below-with, below-without, below-none}
 use Rattle.type_names.proofs.Meanings.{entry-lt, name-meant}
@@ -21,7 +21,7 @@ use Rattle.type_names.proofs.members.names_of.Statement.{statement}
 use Rattle.type_names.proofs.members.names_of.Tie as tie
 
 abbrev Inv-loop : tie.InvT-loop
-Inv-loop types properties names index t found n set₀ p₀ set p = (p ≤ n) × (n ≤ 512) × (n ≡ propertyCount properties) × (length set ≡ 8) × HoldsWide set 0 (λ q. ltb q p && isNameOf (modelOf [] types properties [] [] [] [] [] names) t q)
+Inv-loop types properties names index t found n set₀ p₀ set p = (p ≤ n) × (n ≤ 512) × (n ≡ propertyCount properties) × (length set ≡ 8) × MembersWide set 0 (λ q. ltb q p && isNameOf (modelOf [] types properties [] [] [] [] [] names) t q)
     × Meaning types properties index t found × Ranked (λ q. nameOf properties names q) (propertyCount properties) (getD index 1536 0) index
 
 abbrev μ-loop : tie.MeasureT-loop
@@ -74,7 +74,7 @@ loop-again c = let l = c .before .before .before .loop in
     let a = c .before .before .before .before .before .before .before .before .before .before .args in
     let test : ℕ → Bool = (λ q. isNameOf (modelOf [] (a .types .now) (a .properties .now) [] [] [] [] [] (a .names .now)) (a .t) q) in
     let e = name-meant (a .types .now) (a .properties .now) (a .names .now) (a .index .now) (a .t) (l .inv .6) (l .p) (omega arith) (c .before .before .before .before .before .meaning-of .result) (omega arith) (l .inv .5) in
-    let s : (length (c .if1 .set) ≡ 8) × HoldsWide (c .if1 .set) 0 (λ q. ltb q (l .p + 1) && test q) = ⊎-elim
+    let s : (length (c .if1 .set) ≡ 8) × MembersWide (c .if1 .set) 0 (λ q. ltb q (l .p + 1) && test q) = ⊎-elim
     (λ w. let t : test (l .p) ≡ true = sym e ∙ eq-eqb _ _ (w .0 .taken ∙ add-one (l .p)) in rw (w .2) (w .1 .ensures .0, λ q h. w .1 .ensures .1 q h ∙ rw (l .inv .4 q h) (below-with test (l .p) q t)))
     (λ w. let t : test (l .p) ≡ false = sym e ∙ ne-eqb _ _ (λ y. w .0 .left (y ∙ sym (add-one (l .p)))) in rw (w .1) (l .inv .3, λ q h. l .inv .4 q h ∙ below-without test (l .p) q t))
     (c .if1 .came) in

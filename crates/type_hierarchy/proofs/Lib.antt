@@ -1,0 +1,11 @@
+pub mod Climb
+pub mod Near
+pub mod Frame
+pub mod Climbing
+pub mod Past
+pub mod SetLaws
+pub mod Tables
+pub mod AncestorSets
+pub mod Owners
+pub mod Reaching
+pub mod Closing
