@@ -1,6 +1,7 @@
 pub mod Everything
 pub mod Examples
 pub mod Logic
+pub mod Windows
 pub mod Loops
 pub mod Settle
 pub mod Climbing

@@ -10,7 +10,7 @@ use borrow.Author.Tests.{ltb-true, ltb-false}
 use Rattle.csdl.specs.Search.{anyFrom}
 use Rattle.csdl.specs.Climb.{rounds, reaches}
 use Rattle.csdl.proofs.Settle.{by-n}
-use Rattle.csdl.proofs.Logic.{or-cases, or-left, or-right, and-cases, and-both, true-false, any-found, any-of, any-same, tab-at, tab-past}
+use Rattle.csdl.proofs.Logic.{or-cases, or-left, or-right, and-cases, and-both, true-false, any-found, any-of, any-same, tab-same, tab-at, tab-past}
 
 -- b is reached from a in one or more steps through numbers below n.
 pub data Reach (step : ℕ → ℕ → Bool) (n a : ℕ) : ℕ → Type 0 where
@@ -83,3 +83,21 @@ module _ (step : ℕ → ℕ → Bool) (n a : ℕ) where
 
   pub reaches-exact : (b : ℕ) → b < n → (reaches step n a b ≡ true) ↔ Reach step n a b
   reaches-exact b l = (reaches-sound b, reaches-found b l)
+
+-- Steps that agree below n.
+module _ (s t : ℕ → ℕ → Bool) (n : ℕ) (e : (a b : ℕ) → a < n → b < n → s a b ≡ t a b) where
+  rounds-same : (k a : ℕ) → a < n → rounds s n a k ≡ rounds t n a k
+  unfolding rounds
+  rounds-same zero a i = tab-same (s a) (t a) 0 n (λ b l h. e a b i (omega arith))
+  rounds-same (suc k) a i =
+      rw (rounds-same k a i)
+      (tab-same (λ b. getD (rounds t n a k) b false || anyFrom (λ c. getD (rounds t n a k) c false && s c b) 0 n)
+      (λ b. getD (rounds t n a k) b false || anyFrom (λ c. getD (rounds t n a k) c false && t c b) 0 n) 0 n
+      (λ b l h.
+      ap (λ (x : Bool). getD (rounds t n a k) b false || x)
+      (any-same (λ c. getD (rounds t n a k) c false && s c b) (λ c. getD (rounds t n a k) c false && t c b) 0 n
+      (λ c p q. ap (λ (y : Bool). getD (rounds t n a k) c false && y) (e c b (omega arith) (omega arith))))))
+
+  pub reaches-same : (a b : ℕ) → a < n → reaches s n a b ≡ reaches t n a b
+  unfolding reaches
+  reaches-same a b i = rw (rounds-same n a i)

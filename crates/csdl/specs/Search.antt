@@ -76,6 +76,12 @@ abbrev pub ifFound : {A : Type 0} → A → (ℕ → A) → ℕ → A
 ifFound d f zero = d
 ifFound d f (suc k) = f k
 
+-- A record that was found (0 for none, else its number plus 1), as a place (0 for none, else the place plus 1): the table's records start at
+-- place `first`.
+abbrev pub placeFound : ℕ → ℕ → ℕ
+placeFound first zero = 0
+placeFound first (suc k) = first + suc k
+
 -- The first of two partial answers.
 abbrev pub orElse : ℕ → ℕ → ℕ
 orElse zero r = r

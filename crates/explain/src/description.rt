@@ -1,6 +1,8 @@
 // Records in words: what a record is and its number, its name, and what it belongs to. `at` is the layout of the image; `names` are
 // its name bytes, or no bytes where they cannot be read.
 ghost use Rattle.model_image.specs.Laid.{Laid};
+ghost use Rattle.model_image.specs.Limits.{FewTypes};
+use crate::print::joined;
 use crate::print::named;
 use crate::print::numbered;
 use crate::print::text;
@@ -41,165 +43,138 @@ pub fn record(image: &[u8], at: Layout, names: &[u8], place: u16)
     let rec = record_at(at, place);
     head(image, at, rec);
     named(model_naming::name_record(image, place as u32));
-    owner(image, at, names, rec);
-}
-
-// A type, as `entity type 1 Stop`.
-pub fn type_in_words(image: &[u8], at: Layout, names: &[u8], t: u16)
-    requires { ⌜ Laid (now image) at ⌝ }
-{
-    type_head(image, at, t);
-    named(type_text(types_of(image, at), names, t));
-}
-
-// A property, as `navigation property 4 Stop/Next`.
-pub fn property_in_words(image: &[u8], at: Layout, names: &[u8], p: u16)
-    requires { ⌜ Laid (now image) at ⌝ }
-{
-    property_head(image, at, p);
-    if names.len() == 0 {
+    let owner = owner_of(image, at, rec);
+    if let Record::Nowhere = owner {
         return;
     }
-    let properties = properties_of(image, at);
-    named(type_text(types_of(image, at), names, property_owner(properties, p)));
-    text(b"/");
-    text(property_text(properties, names, p));
+    text(b" of ");
+    in_words(image, at, names, owner);
 }
 
+// A schema, type, property or child, as `entity type 1 Stop` or `navigation property 4 Stop/Next`.
+pub fn in_words(image: &[u8], at: Layout, names: &[u8], rec: Record)
+    requires { ⌜ Laid (now image) at ⌝ }
+{
+    head(image, at, rec);
+    match rec {
+        Record::OfSchema(s) => named(namespace_text(schemas_of(image, at), names, s)),
+        Record::OfType(t) => named(type_text(types_of(image, at), names, t)),
+        Record::OfProperty(p) => named_within(image, at, names, p),
+        Record::OfChild(h) => named(child_text(children_of(image, at), names, h)),
+        _ => {}
+    }
+}
+
+// The name of a property behind that of its owner.
+fn named_within(image: &[u8], at: Layout, names: &[u8], p: u16)
+    requires { ⌜ Laid (now image) at ⌝ }
+{
+    let properties = properties_of(image, at);
+    named(type_text(types_of(image, at), names, property_owner(properties, p)));
+    joined(b"/", property_text(properties, names, p));
+}
+
+// The record that a record belongs to, or nowhere.
+fn owner_of(image: &[u8], at: Layout, rec: Record) -> Record
+    requires { ⌜ Laid (now image) at ⌝ }
+{
+    match rec {
+        Record::OfType(t) => Record::OfSchema(type_schema(types_of(image, at), t)),
+        Record::OfProperty(p) => Record::OfType(property_owner(properties_of(image, at), p)),
+        Record::OfKey(k) => Record::OfType(key_owner(keys_of(image, at), k)),
+        Record::OfConstraint(c) => Record::OfProperty(constraint_property(
+            constraints_of(image, at),
+            c,
+        )),
+        Record::OfChild(h) => Record::OfType(child_type(children_of(image, at), h)),
+        Record::OfBinding(b) => Record::OfChild(binding_child(bindings_of(image, at), b)),
+        _ => Record::Nowhere,
+    }
+}
+
+// What a record is, and its number.
 fn head(image: &[u8], at: Layout, rec: Record)
     requires { ⌜ Laid (now image) at ⌝ }
 {
     match rec {
-        Record::OfSchema(s) => numbered(b"schema ", s),
+        Record::OfSchema(s) => schema_head(image, at, s),
         Record::OfType(t) => type_head(image, at, t),
         Record::OfProperty(p) => property_head(image, at, p),
-        Record::OfKey(k) => numbered(b"key ", k),
-        Record::OfConstraint(c) => numbered(b"constraint ", c),
+        Record::OfKey(k) => plain_head(0, k),
+        Record::OfConstraint(c) => plain_head(1, c),
         Record::OfChild(h) => child_head(image, at, h),
-        Record::OfBinding(b) => numbered(b"binding ", b),
+        Record::OfBinding(b) => plain_head(2, b),
         Record::OfSegment(g) => segment_head(image, at, g),
         Record::Nowhere => text(b"no record"),
     }
 }
 
-fn owner(image: &[u8], at: Layout, names: &[u8], rec: Record)
-    requires { ⌜ Laid (now image) at ⌝ }
-{
-    match rec {
-        Record::OfType(t) => of_schema(image, at, names, type_schema(types_of(image, at), t)),
-        Record::OfProperty(p) => of_type(
-            image,
-            at,
-            names,
-            property_owner(properties_of(image, at), p),
-        ),
-        Record::OfKey(k) => of_type(image, at, names, key_owner(keys_of(image, at), k)),
-        Record::OfConstraint(c) => {
-            of_property(
-                image,
-                at,
-                names,
-                constraint_property(constraints_of(image, at), c),
-            );
-        }
-        Record::OfChild(h) => of_type(image, at, names, child_type(children_of(image, at), h)),
-        Record::OfBinding(b) => of_child(
-            image,
-            at,
-            names,
-            binding_child(bindings_of(image, at), b),
-        ),
-        _ => {}
-    }
+// A record of a table that has one word.
+fn plain_head(k: u16, n: u16) {
+    numbered(b"key |constraint |binding ", k, n);
 }
 
-fn of_schema(image: &[u8], at: Layout, names: &[u8], s: u16)
+fn schema_head(image: &[u8], at: Layout, s: u16)
     requires { ⌜ Laid (now image) at ⌝ }
 {
-    let schemas = schemas_of(image, at);
-    if schema_count(schemas) <= s {
-        numbered(b" of missing schema ", s);
-        return;
-    }
-    numbered(b" of schema ", s);
-    named(namespace_text(schemas, names, s));
-}
-
-fn of_type(image: &[u8], at: Layout, names: &[u8], t: u16)
-    requires { ⌜ Laid (now image) at ⌝ }
-{
-    text(b" of ");
-    type_in_words(image, at, names, t);
-}
-
-fn of_property(image: &[u8], at: Layout, names: &[u8], p: u16)
-    requires { ⌜ Laid (now image) at ⌝ }
-{
-    text(b" of ");
-    property_in_words(image, at, names, p);
-}
-
-fn of_child(image: &[u8], at: Layout, names: &[u8], h: u16)
-    requires { ⌜ Laid (now image) at ⌝ }
-{
-    text(b" of ");
-    child_head(image, at, h);
-    named(child_text(children_of(image, at), names, h));
+    let k = word_of(schema_count(schemas_of(image, at)), s, false);
+    numbered(b"missing schema |schema ", k, s);
 }
 
 fn type_head(image: &[u8], at: Layout, t: u16)
     requires { ⌜ Laid (now image) at ⌝ }
 {
-    let types = types_of(image, at);
+    numbered(
+        b"missing type |entity type |complex type |enumeration type |type definition |type of no kind ",
+        type_word(types_of(image, at), t),
+        t,
+    );
+}
+
+// 0 where there is no such type, or else 1 more than its kind.
+fn type_word(types: &[u8], t: u16) -> u16
+    requires { ⌜ FewTypes (now types) ⌝ }
+{
     if type_count(types) <= t {
-        numbered(b"missing type ", t);
-        return;
+        return 0;
     }
-    match type_kind(types, t) {
-        0 => numbered(b"entity type ", t),
-        1 => numbered(b"complex type ", t),
-        2 => numbered(b"enumeration type ", t),
-        3 => numbered(b"type definition ", t),
-        _ => numbered(b"type of no kind ", t),
-    }
+    1 + type_kind(types, t)
 }
 
 fn property_head(image: &[u8], at: Layout, p: u16)
     requires { ⌜ Laid (now image) at ⌝ }
 {
     let properties = properties_of(image, at);
-    if property_count(properties) <= p {
-        numbered(b"missing property ", p);
-        return;
-    }
-    if property_navigation(properties, p) {
-        numbered(b"navigation property ", p);
-    } else {
-        numbered(b"property ", p);
-    }
+    let k = word_of(
+        property_count(properties),
+        p,
+        property_navigation(properties, p),
+    );
+    numbered(b"missing property |property |navigation property ", k, p);
 }
 
 fn child_head(image: &[u8], at: Layout, h: u16)
     requires { ⌜ Laid (now image) at ⌝ }
 {
     let children = children_of(image, at);
-    if child_count(children) <= h {
-        numbered(b"missing child ", h);
-        return;
+    let k = word_of(child_count(children), h, child_singleton(children, h));
+    numbered(b"missing child |entity set |singleton ", k, h);
+}
+
+// The word for record n of `count`: 0 where there is none, or else 1, or 2 where its flag is set.
+fn word_of(count: u16, n: u16, flag: bool) -> u16 {
+    if count <= n {
+        return 0;
     }
-    if child_singleton(children, h) {
-        numbered(b"singleton ", h);
-    } else {
-        numbered(b"entity set ", h);
+    if flag {
+        return 2;
     }
+    1
 }
 
 fn segment_head(image: &[u8], at: Layout, g: u16)
     requires { ⌜ Laid (now image) at ⌝ }
 {
-    if segment_cast(segments_of(image, at), g) {
-        numbered(b"cast segment ", g);
-    } else {
-        numbered(b"segment ", g);
-    }
+    let k = segment_cast(segments_of(image, at), g) as u16;
+    numbered(b"segment |cast segment ", k, g);
 }

@@ -2,14 +2,15 @@
 // or that of its type for a cast, and the property or cast to which it resolves.
 ghost use Prim.Native.Nat.{_<_};
 ghost use Rattle.model_image.specs.Laid.{Laid};
-use crate::description::property_in_words;
-use crate::description::type_in_words;
+use crate::description::in_words;
 use crate::paths::heading;
 use crate::paths::place_after;
 use crate::print::column;
+use crate::print::line_end;
 use crate::print::right;
 use crate::print::text;
 use csdl::PathKind;
+use csdl::Record;
 use lookup::texts::property_text;
 use lookup::texts::type_text;
 use model_image::layout::Layout;
@@ -72,7 +73,7 @@ fn path(image: &[u8], at: Layout, resolution: &[u8; sheet::RESOLUTION_SIZE], kin
         return;
     }
     heading(image, at, kind, r);
-    text(b"\n");
+    line_end();
     segments(image, at, resolution, first, count);
 }
 
@@ -88,26 +89,21 @@ fn segments(
 {
     for k in 0..count {
         let g = first + k;
-        segment(image, at, g, code_of(resolution, g));
+        segment(image, at, g, packed::number_at(resolution, g));
     }
 }
 
-// What segment g resolves to: a property's number, or 32768 and that of a cast's type.
-fn code_of(resolution: &[u8; sheet::RESOLUTION_SIZE], g: u16) -> u16 {
-    packed::field16(resolution, 16 * (g as u32), 16)
-}
-
+// A segment and what it resolves to: a property's number, or 32768 and that of a cast's type.
 fn segment(image: &[u8], at: Layout, g: u16, resolved: u16)
     requires { ⌜ Laid (now image) at ⌝ }
 {
     right(place_after(at.segments_place, g));
-    text(b"  ");
     if resolved < 32768 {
         property(image, at, resolved);
     } else {
         cast(image, at, resolved - 32768);
     }
-    text(b"\n");
+    line_end();
 }
 
 // A name and the property that it means, which has that name, as `No   property 2 Stop/No`.
@@ -116,7 +112,7 @@ fn property(image: &[u8], at: Layout, p: u16)
 {
     let names = names_of(image, at);
     column(property_text(properties_of(image, at), names, p));
-    property_in_words(image, at, names, p);
+    in_words(image, at, names, Record::OfProperty(p));
 }
 
 // A cast and its type, as `Stop   cast to entity type 1 Stop`.
@@ -126,5 +122,5 @@ fn cast(image: &[u8], at: Layout, t: u16)
     let names = names_of(image, at);
     column(type_text(types_of(image, at), names, t));
     text(b"cast to ");
-    type_in_words(image, at, names, t);
+    in_words(image, at, names, Record::OfType(t));
 }

@@ -19,26 +19,27 @@ fn explain_input() {
     }
 }
 
-fn heading(name: &[u8]) -> bool {
-    print::written(b"== ") && print::written(name) && print::written(b"\n")
+// The line above an explanation, if there are several.
+fn heading(name: &[u8], several: bool) -> bool {
+    !several || print::written(b"== ") && print::written(name) && print::written(b"\n")
+}
+
+// The empty line below it.
+fn ending(several: bool) {
+    if several {
+        print::line_end();
+    }
 }
 
 fn explain_argument(i: usize, several: bool) {
     let mut name = io::buffer();
     let mut image = [0u8; input::IMAGE_SIZE];
     let read = input::read_argument(i, &mut name, &mut image);
-    if !read.whole {
-        return;
-    }
-    let n = read.size;
-    if !several {
-        explain(&image[..n]);
-        return;
-    }
     let k = read.name;
-    if heading(&name[..k]) {
+    let n = read.size;
+    if read.whole && heading(&name[..k], several) {
         explain(&image[..n]);
-        print::text(b"\n");
+        ending(several);
     }
 }
 

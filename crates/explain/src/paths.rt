@@ -1,13 +1,13 @@
 // The paths of an image in words, by kind and record.
 ghost use Rattle.model_image.specs.Laid.{Laid};
+use crate::description::in_words;
 use crate::description::record;
-use crate::description::type_in_words;
 use crate::print::text;
+use crate::print::word;
 use csdl::PathKind;
+use csdl::Record;
 use model_image::layout::Layout;
 use model_image::layout::names_of;
-use model_image::layout::types_of;
-use model_image::types::type_count;
 use path_kinds::in_image::start_in;
 
 // A path in words, as `binding 0 of entity set 0 Tours, from entity type 0 Tour`: what it is, the record that holds it and, unless
@@ -16,14 +16,11 @@ pub fn heading(image: &[u8], at: Layout, kind: PathKind, r: u16)
     requires { ⌜ Laid (now image) at ⌝ }
 {
     let names = names_of(image, at);
-    match kind {
-        PathKind::Partner => text(b"partner of "),
-        PathKind::Dependent => text(b"dependent of "),
-        PathKind::Principal => text(b"principal of "),
-        PathKind::Target => text(b"target of "),
-        _ => {}
-    }
-    record(image, at, names, holder_place(at, kind, r));
+    text(word(
+        b"|partner of |dependent of |principal of |target of ",
+        role(kind),
+    ));
+    record(image, at, names, place_after(first_holder(at, kind), r));
     match kind {
         PathKind::Key => {}
         PathKind::Dependent => {}
@@ -31,28 +28,37 @@ pub fn heading(image: &[u8], at: Layout, kind: PathKind, r: u16)
     }
 }
 
-// The type at which a path starts.
+// The word for a path among those of its record: 0, which is empty, for that of a key or binding.
+fn role(kind: PathKind) -> u16 {
+    match kind {
+        PathKind::Partner => 1,
+        PathKind::Dependent => 2,
+        PathKind::Principal => 3,
+        PathKind::Target => 4,
+        _ => 0,
+    }
+}
+
+// The type at which a path starts: a number below 64 is that of a type.
 fn from(image: &[u8], at: Layout, names: &[u8], kind: PathKind, r: u16)
     requires { ⌜ Laid (now image) at ⌝ }
 {
     text(b", from ");
     let t = start_in(image, at, kind, r);
-    if t < type_count(types_of(image, at)) {
-        type_in_words(image, at, names, t);
+    if t < 64 {
+        in_words(image, at, names, Record::OfType(t));
     } else {
         text(b"a primitive type");
     }
 }
 
-// The place of record r of the table whose records hold paths of the kind.
-fn holder_place(at: Layout, kind: PathKind, r: u16) -> u16 {
+// The place of the first record of the table whose records hold paths of the kind.
+fn first_holder(at: Layout, kind: PathKind) -> u16 {
     match kind {
-        PathKind::Partner => place_after(at.properties_place, r),
-        PathKind::Key => place_after(at.keys_place, r),
-        PathKind::Dependent => place_after(at.constraints_place, r),
-        PathKind::Principal => place_after(at.constraints_place, r),
-        PathKind::Binding => place_after(at.bindings_place, r),
-        PathKind::Target => place_after(at.bindings_place, r),
+        PathKind::Partner => at.properties_place,
+        PathKind::Key => at.keys_place,
+        PathKind::Dependent | PathKind::Principal => at.constraints_place,
+        PathKind::Binding | PathKind::Target => at.bindings_place,
     }
 }
 

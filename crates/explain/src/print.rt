@@ -14,33 +14,59 @@ pub fn text(s: &[u8]) {
     written(s);
 }
 
-pub fn numbered(word: &[u8], n: u16) {
-    text(word);
+pub fn line_end() {
+    text(b"\n");
+}
+
+// A word of a list and a number.
+pub fn numbered(words: &[u8], k: u16, n: u16) {
+    text(word(words, k));
     io::print_decimal(libc::STDOUT_FILENO, n as u64);
+}
+
+// Word k of a list, whose words a bar parts and whose first is word 0; past the last, the last.
+pub fn word(words: &[u8], k: u16) -> &[u8] {
+    let mut from = 0;
+    let mut left = k;
+    for i in 0..words.len() {
+        if words[i] == b'|' {
+            if left == 0 {
+                return &words[from..i];
+            }
+            left = left - 1;
+            from = i + 1;
+        }
+    }
+    &words[from..]
 }
 
 // A name behind what stands before it; nothing where there is none.
 pub fn named(name: &[u8]) {
-    if name.len() == 0 {
-        return;
+    joined(b" ", name);
+}
+
+// The same with other bytes between.
+pub fn joined(between: &[u8], name: &[u8]) {
+    if 0 < name.len() {
+        text(between);
+        text(name);
     }
-    text(b" ");
-    text(name);
 }
 
 // Text in a column of 20 bytes and a blank, or as many as it has.
 pub fn column(s: &[u8]) {
     text(s);
-    text(b" ");
+    blanks(1);
     if s.len() < 20 {
         blanks((20 - s.len()) as u16);
     }
 }
 
-// A number to the right of a column of 7 bytes.
+// A number to the right of a column of 7 bytes, and two blanks.
 pub fn right(n: u16) {
     blanks(7 - digits(n));
     io::print_decimal(libc::STDOUT_FILENO, n as u64);
+    blanks(2);
 }
 
 fn digits(n: u16) -> u16

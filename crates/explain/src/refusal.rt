@@ -2,6 +2,7 @@
 ghost use Rattle.model_image.specs.Laid.{Laid};
 use crate::description::record;
 use crate::paths::heading;
+use crate::print::line_end;
 use crate::print::text;
 use crate::rulebook;
 use csdl::PathKind;
@@ -16,23 +17,29 @@ use path_kinds::kinds::kind_at;
 pub fn explain(image: &[u8], at: Layout, rule: u16, place: u16)
     requires { ⌜ Laid (now image) at ⌝ }
 {
-    faulty(image, at, rule, place);
+    text(b"record   ");
+    if rule < 6 {
+        without_names(image, at, place);
+    } else {
+        with_names(image, at, place);
+    }
     rulebook::explain(rule);
 }
 
-// The record at fault. Names are read only where rules 3, 4 and 5 are unbroken, so what is printed of them is letters, digits,
-// underscores and dots.
-fn faulty(image: &[u8], at: Layout, rule: u16, place: u16)
+// The record at fault while rule 3, 4 or 5 is broken.
+fn without_names(image: &[u8], at: Layout, place: u16)
     requires { ⌜ Laid (now image) at ⌝ }
 {
-    text(b"record   ");
-    if rule < 6 {
-        record(image, at, b"", place);
-        text(b"\nnames    not read while rule 3, 4 or 5 is broken\n");
-        return;
-    }
+    record(image, at, b"", place);
+    text(b"\nnames    not read while rule 3, 4 or 5 is broken\n");
+}
+
+// The same where they are unbroken, so that what is printed of names is letters, digits, underscores and dots.
+fn with_names(image: &[u8], at: Layout, place: u16)
+    requires { ⌜ Laid (now image) at ⌝ }
+{
     record(image, at, names_of(image, at), place);
-    text(b"\n");
+    line_end();
     let rec = record_at(at, place);
     match rec {
         Record::OfSegment(g) => paths_with(image, at, g),
@@ -79,6 +86,6 @@ fn path_with(image: &[u8], at: Layout, kind: PathKind, r: u16, g: u16, left: u16
     }
     text(b"path     ");
     heading(image, at, kind, r);
-    text(b"\n");
+    line_end();
     left - 1
 }

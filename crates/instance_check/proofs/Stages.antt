@@ -4,7 +4,7 @@ use mathlib.Core.Path.{_≡_, refl, sym, _∙_}
 use mathlib.Core.Bool.{Bool}
 use mathlib.Core.List.{List, [], _∷_}
 use native.Mathlib.Omega.{arith}
-use Rattle.csdl.specs.Search.{firstFrom, orElse}
+use Rattle.csdl.specs.Search.{firstFrom, orElse, placeFound}
 use Rattle.csdl.specs.Model.{Model, modelOf}
 use Rattle.csdl.specs.Find.{ofKind, structured, ancestor, ancestorOrSelf, declares, own, find, isNameOf, complexStep, containStep, integral}
 use Rattle.csdl.specs.Instance.{Instance, instanceOf, instanceIn, nodeCount, slotCount, itemCount, instancePlaces}
@@ -12,7 +12,7 @@ use Rattle.csdl.specs.Conforms.{node21a, slot21b, item21c, rule21, node22, rule
 use Rattle.csdl.specs.Verdict.{Answer, Stage, refuse, verdict}
 use Rattle.csdl.specs.Verdict.Answer.{refused}
 use Rattle.csdl.specs.Verdict.Stage.{each}
-use Rattle.instance_runs.specs.Tables.{further}
+use Rattle.csdl.proofs.Windows.{place-of-some}
 use Rattle.csdl.specs.Image.{modelIn}
 use Rattle.model_image.specs.Laid.{schemasIn, typesIn, propertiesIn, keysIn, constraintsIn, childrenIn, bindingsIn, segmentsIn, namesIn}
 use Rattle.instance_image.specs.Tables.{nodesIn, slotsIn, itemsIn}
@@ -51,12 +51,12 @@ module _ (x f r : ℕ) (e : x ≡ f) where
   pub found-later : (a : ℕ) → x ≡ 0 → a ≡ r → a ≡ orElse f r
   found-later a z p = rw (← e, z) p
 
--- The same d further on.
+-- The same in a table whose records start at place d.
 module _ (d x f : ℕ) (e : x ≡ f) where
-  pub further-here : (r : ℕ) → (x ≡ 0 → ⊥) → d + x ≡ orElse (further d f) r
-  further-here r n = rw (← e) (go x n)
+  pub place-here : (r : ℕ) → (x ≡ 0 → ⊥) → d + x ≡ orElse (placeFound d f) r
+  place-here r n = rw (← e) (go x n)
     where
-      go : (y : ℕ) → (y ≡ 0 → ⊥) → d + y ≡ orElse (further d y) r
+      go : (y : ℕ) → (y ≡ 0 → ⊥) → d + y ≡ orElse (placeFound d y) r
       go zero q = absurd (q refl)
       go (suc y) q = over (d + suc y) (omega arith)
         where
@@ -64,28 +64,20 @@ module _ (d x f : ℕ) (e : x ≡ f) where
           over zero p = absurd (p refl)
           over (suc z) p = refl
 
-  pub further-none : (a r : ℕ) → x ≡ 0 → a ≡ r → a ≡ orElse (further d f) r
-  further-none a r z p = rw (← e, z) p
+  pub place-none : (a r : ℕ) → x ≡ 0 → a ≡ r → a ≡ orElse (placeFound d f) r
+  place-none a r z p = rw (← e, z) p
 
-  pub further-last : (x ≡ 0 → ⊥) → d + x ≡ further d f
-  further-last n = rw (← e) (go x n)
-    where
-      go : (y : ℕ) → (y ≡ 0 → ⊥) → d + y ≡ further d y
-      go zero q = absurd (q refl)
-      go (suc y) q = refl
+  pub place-last : (x ≡ 0 → ⊥) → d + x ≡ placeFound d f
+  place-last n = rw (← e) (place-of-some d x n)
 
-  pub further-gone : x ≡ 0 → 0 ≡ further d f
-  further-gone z = rw (← e, z)
-
-pub further-is : (d y : ℕ) → (y ≡ 0 → ⊥) → d + y ≡ further d y
-further-is d zero n = absurd (n refl)
-further-is d (suc y) n = refl
+  pub place-gone : x ≡ 0 → 0 ≡ placeFound d f
+  place-gone z = rw (← e, z)
 
 -- Rule 21 by its tables.
 pub first-21 : (m : Model) (i : Instance)
     → firstFrom (instanceBrokenAt m i rule21) 0 (instancePlaces i)
     ≡ orElse (firstFrom (λ v. node21a m i v) 0 (i .nodes))
-    (orElse (further (i .nodes) (firstFrom (λ s. slot21b m i s) 0 (i .slots))) (further (i .nodes + i .slots) (firstFrom (λ k. item21c i k) 0 (i .items))))
+    (orElse (placeFound (i .nodes) (firstFrom (λ s. slot21b m i s) 0 (i .slots))) (placeFound (i .nodes + i .slots) (firstFrom (λ k. item21c i k) 0 (i .items))))
 unfolding rule21
 first-21 m i = first-record i (rule21 m i)
 
@@ -107,12 +99,12 @@ module _ (sc ty pr ke co ch bi sg nm no sl it : List ℕ) (x : ℕ) where
   unfolding modelOf instanceOf node23 slotsOf isNameOf find own declares
   found-23 e = e ∙ sym (nodes-only (instanceOf no sl it) (λ v. node23 (modelOf sc ty pr ke co ch bi sg nm) (instanceOf no sl it) v))
 
-  pub found-24 : x ≡ further (nodeCount no) (firstFrom (λ s. slot24 (modelOf [] [] pr [] [] [] [] [] []) (instanceOf [] sl []) s) 0 (slotCount sl))
+  pub found-24 : x ≡ placeFound (nodeCount no) (firstFrom (λ s. slot24 (modelOf [] [] pr [] [] [] [] [] []) (instanceOf [] sl []) s) 0 (slotCount sl))
       → x ≡ firstFrom (instanceBrokenAt (modelOf sc ty pr ke co ch bi sg nm) (instanceOf no sl it) rule24) 0 (instancePlaces (instanceOf no sl it))
   unfolding modelOf instanceOf slot24
   found-24 e = e ∙ sym (slots-only (instanceOf no sl it) (λ s. slot24 (modelOf sc ty pr ke co ch bi sg nm) (instanceOf no sl it) s))
 
-  pub found-25 : x ≡ further (nodeCount no + slotCount sl) (firstFrom (λ k. item25 (modelOf [] ty pr [] [] [] [] [] []) (instanceOf no sl it) k) 0 (itemCount it))
+  pub found-25 : x ≡ placeFound (nodeCount no + slotCount sl) (firstFrom (λ k. item25 (modelOf [] ty pr [] [] [] [] [] []) (instanceOf no sl it) k) 0 (itemCount it))
       → x ≡ firstFrom (instanceBrokenAt (modelOf sc ty pr ke co ch bi sg nm) (instanceOf no sl it) rule25) 0 (instancePlaces (instanceOf no sl it))
   unfolding modelOf instanceOf item25 item25of structured carriesNode ancestorOrSelf ancestor
   found-25 e = e ∙ sym (items-only (instanceOf no sl it) (λ k. item25 (modelOf sc ty pr ke co ch bi sg nm) (instanceOf no sl it) k))
@@ -137,11 +129,11 @@ module _ (m i : List ℕ) (x : ℕ) where
   unfolding modelIn instanceIn lowestInstancePlace
   in-23 e = found-23 (schemasIn m) (typesIn m) (propertiesIn m) (keysIn m) (constraintsIn m) (childrenIn m) (bindingsIn m) (segmentsIn m) (namesIn m) (nodesIn i) (slotsIn i) (itemsIn i) x e
 
-  pub in-24 : x ≡ further (nodeCount (nodesIn i)) (firstFrom (λ s. slot24 (modelOf [] [] (propertiesIn m) [] [] [] [] [] []) (instanceOf [] (slotsIn i) []) s) 0 (slotCount (slotsIn i))) → x ≡ lowestInstancePlace (modelIn m) (instanceIn i) rule24
+  pub in-24 : x ≡ placeFound (nodeCount (nodesIn i)) (firstFrom (λ s. slot24 (modelOf [] [] (propertiesIn m) [] [] [] [] [] []) (instanceOf [] (slotsIn i) []) s) 0 (slotCount (slotsIn i))) → x ≡ lowestInstancePlace (modelIn m) (instanceIn i) rule24
   unfolding modelIn instanceIn lowestInstancePlace
   in-24 e = found-24 (schemasIn m) (typesIn m) (propertiesIn m) (keysIn m) (constraintsIn m) (childrenIn m) (bindingsIn m) (segmentsIn m) (namesIn m) (nodesIn i) (slotsIn i) (itemsIn i) x e
 
-  pub in-25 : x ≡ further (nodeCount (nodesIn i) + slotCount (slotsIn i)) (firstFrom (λ k. item25 (modelOf [] (typesIn m) (propertiesIn m) [] [] [] [] [] []) (instanceOf (nodesIn i) (slotsIn i) (itemsIn i)) k) 0 (itemCount (itemsIn i))) → x ≡ lowestInstancePlace (modelIn m) (instanceIn i) rule25
+  pub in-25 : x ≡ placeFound (nodeCount (nodesIn i) + slotCount (slotsIn i)) (firstFrom (λ k. item25 (modelOf [] (typesIn m) (propertiesIn m) [] [] [] [] [] []) (instanceOf (nodesIn i) (slotsIn i) (itemsIn i)) k) 0 (itemCount (itemsIn i))) → x ≡ lowestInstancePlace (modelIn m) (instanceIn i) rule25
   unfolding modelIn instanceIn lowestInstancePlace
   in-25 e = found-25 (schemasIn m) (typesIn m) (propertiesIn m) (keysIn m) (constraintsIn m) (childrenIn m) (bindingsIn m) (segmentsIn m) (namesIn m) (nodesIn i) (slotsIn i) (itemsIn i) x e
 

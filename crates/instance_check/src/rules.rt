@@ -3,7 +3,7 @@ ghost use mathlib.Core.Path.{_≡_};
 ghost use mathlib.Core.Bool.{false};
 ghost use mathlib.Core.List.{[]};
 ghost use Prim.Native.Nat.{_+_, _≤_, _<_};
-ghost use Rattle.csdl.specs.Search.{firstFrom};
+ghost use Rattle.csdl.specs.Search.{firstFrom, placeFound};
 ghost use Rattle.csdl.specs.Image.{modelIn};
 ghost use Rattle.csdl.specs.Model.{modelOf};
 ghost use Rattle.csdl.specs.Instance.{instanceOf, instanceIn, image20, nodeCount, slotCount, itemCount, instancePlaces};
@@ -35,6 +35,7 @@ use model_image::layout::layout_of;
 use model_image::layout::names_of;
 use model_image::layout::properties_of;
 use model_image::layout::types_of;
+use model_image::numbers::place_found;
 
 // The first place that breaks rule 21: 0 for none, else the place plus 1.
 fn place_21(types: &[u8], properties: &[u8], nodes: &[u8], slots: &[u8], items: &[u8]) -> u16
@@ -56,20 +57,12 @@ fn place_21(types: &[u8], properties: &[u8], nodes: &[u8], slots: &[u8], items: 
     0
 }
 
-// A number that was found, d further on: 0 for none.
-fn further(d: u16, x: u16) -> u16
-    requires { ⌜ (d ≤ 1280) × (x ≤ 2048) ⌝ }
-    ensures { λ r. ⌜ r ≡ tables.further d x ⌝ }
-{
-    if x == 0 { 0 } else { d + x }
-}
-
 // The first place that breaks rule 24: 0 for none, else the place plus 1.
 fn place_24(properties: &[u8], nodes: &[u8], slots: &[u8]) -> u16
     requires { ⌜ FewNodes (now nodes) × FewSlots (now slots) ⌝ }
-    ensures { λ r. ⌜ r ≡ tables.further (nodeCount (now (nodes .entry))) (firstFrom (λ s. rules.slot24 (modelOf [] [] (now (properties .entry)) [] [] [] [] [] []) (instanceOf [] (now (slots .entry)) []) s) 0 (slotCount (now (slots .entry)))) ⌝ }
+    ensures { λ r. ⌜ r ≡ placeFound (nodeCount (now (nodes .entry))) (firstFrom (λ s. rules.slot24 (modelOf [] [] (now (properties .entry)) [] [] [] [] [] []) (instanceOf [] (now (slots .entry)) []) s) 0 (slotCount (now (slots .entry)))) ⌝ }
 {
-    further(node_count(nodes), first_24(properties, slots))
+    place_found(node_count(nodes), first_24(properties, slots))
 }
 
 // The first place that breaks rule 25: 0 for none, else the place plus 1.
@@ -82,9 +75,9 @@ fn place_25(
     owners: &[u16],
 ) -> u16
     requires { ⌜ FewTypes (now types) × FewNodes (now nodes) × FewSlots (now slots) × FewItems (now items) × tables.Tabulates (λ k. rules.slotOfItem (instanceOf [] (now slots) []) k) 2048 (now owners) ⌝ }
-    ensures { λ r. ⌜ r ≡ tables.further (nodeCount (now (nodes .entry)) + slotCount (now (slots .entry))) (firstFrom (λ k. rules.item25 (modelOf [] (now (types .entry)) (now (properties .entry)) [] [] [] [] [] []) (instanceOf (now (nodes .entry)) (now (slots .entry)) (now (items .entry))) k) 0 (itemCount (now (items .entry)))) ⌝ }
+    ensures { λ r. ⌜ r ≡ placeFound (nodeCount (now (nodes .entry)) + slotCount (now (slots .entry))) (firstFrom (λ k. rules.item25 (modelOf [] (now (types .entry)) (now (properties .entry)) [] [] [] [] [] []) (instanceOf (now (nodes .entry)) (now (slots .entry)) (now (items .entry))) k) 0 (itemCount (now (items .entry)))) ⌝ }
 {
-    further(
+    place_found(
         node_count(nodes) + slot_count(slots),
         first_25(types, properties, nodes, slots, items, owners),
     )

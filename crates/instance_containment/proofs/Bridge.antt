@@ -8,13 +8,13 @@ use lib.Dec.{eqb, ltb, eqb·zero-suc, eqb·suc-suc}
 use lib.ListN.{length, getD, List·getD-eq-default}
 use borrow.Author.Tests.{ltb-true, ltb-false, ne-eqb, le-ltb, lt-ltb}
 use Rattle.csdl.specs.Search.{anyFrom, firstFrom, countFrom, ifFound}
-use Rattle.csdl.specs.Climb.{rounds, reaches}
 use Rattle.csdl.specs.Model.{Model, modelOf, inRun}
 use Rattle.csdl.specs.Find.{integral}
 use Rattle.csdl.specs.Instance.{Instance, instanceOf}
 use Rattle.csdl.specs.Conforms.{isNull, itemProperty, nodeOfItem, nodeOfSlot, holdsItem, holdsNode, node26}
 use Rattle.instance_runs.specs.Tables.{Tabulates, toTwo}
-use Rattle.csdl.proofs.Logic.{any-same, count-same, tab-same, first-same, first-le}
+use Rattle.csdl.proofs.Logic.{any-same, count-same, first-same, first-le}
+use Rattle.csdl.proofs.Reaching.{reaches-same}
 use Rattle.csdl.specs.Conforms.{slotOfItem}
 use Rattle.csdl.specs.Instance.{slotCount, nodeCount}
 use lib.ListN.{set}
@@ -23,24 +23,6 @@ use borrow.Author.Count.{below-more}
 use Rattle.instance_runs.proofs.Fills.{latest}
 use Rattle.instance_containment.proofs.Climbing.{run-any}
 use Rattle.instance_containment.specs.Graph.{heldIf, heldBy, nodeIn, stepIn, timesIn, holderFrom, withinIn, node26In, heldRun}
-
--- Steps that agree below n.
-module _ (s t : ℕ → ℕ → Bool) (n : ℕ) (e : (a b : ℕ) → a < n → b < n → s a b ≡ t a b) where
-  rounds-same : (k a : ℕ) → a < n → rounds s n a k ≡ rounds t n a k
-  unfolding rounds
-  rounds-same zero a i = tab-same (s a) (t a) 0 n (λ b l h. e a b i (omega arith))
-  rounds-same (suc k) a i =
-      rw (rounds-same k a i)
-      (tab-same (λ b. getD (rounds t n a k) b false || anyFrom (λ c. getD (rounds t n a k) c false && s c b) 0 n)
-      (λ b. getD (rounds t n a k) b false || anyFrom (λ c. getD (rounds t n a k) c false && t c b) 0 n) 0 n
-      (λ b l h.
-      ap (λ (x : Bool). getD (rounds t n a k) b false || x)
-      (any-same (λ c. getD (rounds t n a k) c false && s c b) (λ c. getD (rounds t n a k) c false && t c b) 0 n
-      (λ c p q. ap (λ (y : Bool). getD (rounds t n a k) c false && y) (e c b (omega arith) (omega arith))))))
-
-  pub reaches-same : (a b : ℕ) → a < n → reaches s n a b ≡ reaches t n a b
-  unfolding reaches
-  reaches-same a b i = rw (rounds-same n a i)
 
 -- An item with handle h, of n nodes, that is not null (y), of an integral property (g).
 held-same : (h w : ℕ) (t y g : Bool) → (t ≡ false → eqb h w ≡ false) → (eqb h w && y && g) ≡ eqb (cond (t && y && g) (suc h) 0) (suc w)

@@ -20,8 +20,3 @@ changed g r array = tab (λ k. cond (inRun r k) (g (getD array k 0)) (getD array
 -- A count that stops at 2.
 abbrev pub toTwo : ℕ → ℕ
 toTwo n = min 2 n
-
--- A number that was found (0 for none, else a number plus 1), d further on.
-abbrev pub further : ℕ → ℕ → ℕ
-further d zero = 0
-further d (suc x) = d + suc x

@@ -1,7 +1,7 @@
 // Which node has a slot, which slot has an item, and in how many runs each stands: arrays filled by going through the runs once.
 ghost use mathlib.Core.Path.{_≡_};
 ghost use mathlib.Core.List.{[]};
-ghost use Prim.Native.Nat.{min, _+_, _<_};
+ghost use Prim.Native.Nat.{_+_, _<_};
 ghost use Rattle.csdl.specs.Search.{tab};
 ghost use Rattle.csdl.specs.Instance.{instanceOf};
 ghost use Rattle.csdl.specs.Conforms.{nodesWith, slotsWith, nodeOfSlot, slotOfItem};
@@ -11,12 +11,7 @@ use instance_image::fields::node_count;
 use instance_image::fields::node_slots;
 use instance_image::fields::slot_count;
 use instance_image::fields::slot_items;
-
-fn least(a: usize, b: usize) -> usize
-    ensures { λ r. ⌜ r ≡ min a b ⌝ }
-{
-    if a < b { a } else { b }
-}
+use model_image::numbers::least;
 
 // One more, at most 2.
 fn one_more(x: u16) -> u16

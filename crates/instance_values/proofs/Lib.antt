@@ -1,4 +1,3 @@
 pub mod Frames
 pub mod Places
 pub mod Slotted
-pub mod LineLaws

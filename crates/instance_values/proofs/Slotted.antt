@@ -46,9 +46,6 @@ sum-part f i a n h = let e : a + (n - a) ≡ n = omega arith in rw e at (more (s
     more : sumFrom f i (a + (n - a)) ≡ sumFrom f i a + sumFrom f (i + a) (n - a) → sumFrom f i a ≤ sumFrom f i (a + (n - a))
     more q = omega (arith, q)
 
-one-if-true : (b : Bool) → b ≡ true → oneIf b ≡ 1
-one-if-true b e = rw e
-
 one-if-false : (b : Bool) → b ≡ false → oneIf b ≡ 0
 one-if-false b e = rw e
 
@@ -158,7 +155,7 @@ module _ (types properties names : List ℕ) where
     is = λ t h e. absurd (false≢true (sym (member-none t) ∙ e));
   }
 
-  pub rows-more : (rows row next : List ℕ) (done more t : ℕ) → Rows types properties names rows done → MembersWide row 0 (named t) → t < 64 → next ≡ withRow rows row t
+  rows-more : (rows row next : List ℕ) (done more t : ℕ) → Rows types properties names rows done → MembersWide row 0 (named t) → t < 64 → next ≡ withRow rows row t
       → Members 64 more (λ u. member done u || eqb t u) → Rows types properties names next more
   rows-more rows row next done more t w h s e m = let n = replaced rows row t next s e in record {
     size = n .size;
@@ -167,12 +164,22 @@ module _ (types properties names : List ℕ) where
         (λ z. λ p l. n .other u p k z l ∙ w .is u k (sym (or-false (member done u)) ∙ sym (rw (ne-eqb t u (λ y. z (sym y))) at (m u k)) ∙ f) p l);
   }
 
-  pub rows-has : (done more t : ℕ) → t < 64 → Members 64 more (λ u. member done u || eqb t u) → member more t ≡ true
+  rows-has : (done more t : ℕ) → t < 64 → Members 64 more (λ u. member done u || eqb t u) → member more t ≡ true
   rows-has done more t h m = m t h ∙ rw (eq-eqb t t refl) (or-true (member done t))
     where
       or-true : (b : Bool) → b || true ≡ true
       or-true true = refl
       or-true false = refl
+
+  -- After a step that makes the row of t, and after one that has it.
+  pub row-made : (rows row next : List ℕ) (done more t : ℕ) → Rows types properties names rows done → MembersWide row 0 (named t) → t < 64 → next ≡ withRow rows row t
+      → Members 64 more (λ u. member done u || eqb t u) → (rows′ : List ℕ) → rows′ ≡ next → (done′ : ℕ) → done′ ≡ more
+      → Rows types properties names rows′ done′ × (member done′ t ≡ true)
+  row-made rows row next done more t w h s e m rows′ a done′ b = rw (a, b) (rows-more rows row next done more t w h s e m, rows-has done more t s m)
+
+  pub row-kept : (rows : List ℕ) (done t : ℕ) → Rows types properties names rows done → member done t ≡ true → (rows′ : List ℕ) → rows′ ≡ rows → (done′ : ℕ) → done′ ≡ done
+      → Rows types properties names rows′ done′ × (member done′ t ≡ true)
+  row-kept rows done t w m rows′ a done′ b = rw (a, b) (w, m)
 
   module _ (rows : List ℕ) (done t : ℕ) (w : Rows types properties names rows done) (h : t < 64) (e : member done t ≡ true) where
     pub row-past : (n : ℕ) → n ≡ propertyCount properties → (p : ℕ) → n ≤ p → p < 512 → wide rows (8 * t) p ≡ false

@@ -8,7 +8,7 @@ ghost use Rattle.csdl.specs.Instance.{instanceOf, slotCount, nodeCount, itemCou
 ghost use Rattle.csdl.specs.Conforms.{node22, slot24, slotOfItem, itemProperty, isNull, carriesNode, item25of, item25};
 ghost use Rattle.csdl.specs.Find.{ancestorOrSelf};
 ghost use Rattle.instance_runs.specs.Tables.{Tabulates};
-ghost use Rattle.instance_values.specs.Lines.{Lines};
+ghost use Rattle.type_hierarchy.specs.AncestorSets.{ancestorsOf};
 ghost use Rattle.model_image.specs.Limits.{FewTypes};
 ghost use Rattle.instance_image.specs.Limits.{FewItems, FewNodes, FewSlots};
 use instance_image::fields::item_count;
@@ -23,7 +23,8 @@ use model_image::properties::property_collection;
 use model_image::properties::property_nullable;
 use model_image::properties::property_type_ref;
 use model_image::types::type_abstract;
-use type_hierarchy::ancestors::with_ancestors;
+use type_hierarchy::ancestors::all_ancestors;
+use type_hierarchy::ancestors::ancestors_at;
 use type_hierarchy::bases::ancestor_or_self;
 use type_hierarchy::kinds::structured;
 use type_hierarchy::type_sets::in_set;
@@ -60,34 +61,20 @@ pub fn is_null(items: &[u8], k: u16) -> bool
     item_handle(items, k) == 0
 }
 
-// For each type itself and its ancestors, as a set.
-fn lines_of(types: &[u8]) -> [u64; 64]
-    requires { ⌜ FewTypes (now types) ⌝ }
-    ensures { λ r. ⌜ Lines (now (types .entry)) r ⌝ }
-{
-    let mut lines = [0u64; 64];
-    let mut t: u16 = 0;
-    while t < 64 {
-        lines[t as usize] = with_ancestors(types, t);
-        t += 1;
-    }
-    lines
-}
-
-// Whether t is u or derives from it.
-fn is_under(types: &[u8], lines: &[u64], u: u16, t: u16) -> bool
-    requires { ⌜ FewTypes (now types) × (t < 64) × Lines (now types) (now lines) ⌝ }
+// Whether t is u or derives from it, where the ancestors of all types are at hand.
+fn is_under(types: &[u8], ancestors: &[u64], u: u16, t: u16) -> bool
+    requires { ⌜ FewTypes (now types) × (now ancestors ≡ ancestorsOf (now types)) ⌝ }
     ensures { λ r. ⌜ r ≡ ancestorOrSelf (modelOf [] (now (types .entry)) [] [] [] [] [] [] []) u t ⌝ }
 {
     if u < 64 {
-        return in_set(lines[t as usize], u);
+        return (t == u) | in_set(ancestors_at(types, ancestors, t), u);
     }
     ancestor_or_self(types, u, t)
 }
 
 // Whether item k carries its node's type, at type u, and the node's number.
-fn carries_node(types: &[u8], nodes: &[u8], items: &[u8], lines: &[u64], u: u16, k: u16) -> bool
-    requires { ⌜ FewTypes (now types) × FewNodes (now nodes) × Lines (now types) (now lines) ⌝ }
+fn carries_node(types: &[u8], nodes: &[u8], items: &[u8], ancestors: &[u64], u: u16, k: u16) -> bool
+    requires { ⌜ FewTypes (now types) × FewNodes (now nodes) × (now ancestors ≡ ancestorsOf (now types)) ⌝ }
     ensures { λ r. ⌜ r ≡ carriesNode (modelOf [] (now (types .entry)) [] [] [] [] [] [] []) (instanceOf (now (nodes .entry)) [] (now (items .entry))) u k ⌝ }
 {
     let handle = item_handle(items, k);
@@ -98,7 +85,7 @@ fn carries_node(types: &[u8], nodes: &[u8], items: &[u8], lines: &[u64], u: u16,
     if t != node_type(nodes, handle as u16) {
         return false;
     }
-    is_under(types, lines, u, t)
+    is_under(types, ancestors, u, t)
 }
 
 // Rule 25 of an item of property p.
@@ -107,11 +94,11 @@ fn item_25_of(
     properties: &[u8],
     nodes: &[u8],
     items: &[u8],
-    lines: &[u64],
+    ancestors: &[u64],
     p: u16,
     k: u16,
 ) -> bool
-    requires { ⌜ FewTypes (now types) × FewNodes (now nodes) × Lines (now types) (now lines) ⌝ }
+    requires { ⌜ FewTypes (now types) × FewNodes (now nodes) × (now ancestors ≡ ancestorsOf (now types)) ⌝ }
     ensures { λ r. ⌜ r ≡ item25of (modelOf [] (now (types .entry)) (now (properties .entry)) [] [] [] [] [] []) (instanceOf (now (nodes .entry)) [] (now (items .entry))) p k ⌝ }
 {
     if is_null(items, k) {
@@ -119,7 +106,7 @@ fn item_25_of(
     }
     let u = property_type_ref(properties, p);
     if structured(types, u) {
-        return !carries_node(types, nodes, items, lines, u, k);
+        return !carries_node(types, nodes, items, ancestors, u, k);
     }
     item_ref(items, k) != u
 }
@@ -181,12 +168,12 @@ pub fn first_25(
     requires { ⌜ FewTypes (now types) × FewNodes (now nodes) × FewItems (now items) × Tabulates (λ k. slotOfItem (instanceOf [] (now slots) []) k) 2048 (now owners) ⌝ }
     ensures { λ r. ⌜ (r ≡ search.firstFrom (λ k. item25 (modelOf [] (now (types .entry)) (now (properties .entry)) [] [] [] [] [] []) (instanceOf (now (nodes .entry)) (now (slots .entry)) (now (items .entry))) k) 0 (itemCount (now (items .entry)))) × (r ≤ 2048) ⌝ }
 {
-    let lines = lines_of(types);
+    let ancestors = all_ancestors(types);
     let n = item_count(items);
     let mut k: u16 = 0;
     while k < n {
         let p = item_property(slots, owners, k);
-        if item_25_of(types, properties, nodes, items, &lines, p, k) {
+        if item_25_of(types, properties, nodes, items, &ancestors, p, k) {
             return k + 1;
         }
         k += 1;

@@ -16,7 +16,7 @@ use Rattle.model_image.proofs.Parts.{layout, counts}
 use Rattle.rules_segments.specs.Kept.{Resolvable}
 use Rattle.rules_segments.proofs.Resolving.{resolvable}
 use Rattle.path_resolution.specs.Coded.{Coded}
-use Rattle.model_check.specs.Written.{codeBytes}
+use Rattle.path_resolution.specs.Written.{codeBytes}
 use Rattle.model_check.proofs.Whole.{codes-resolution}
 
 -- What follows rules 3 to 19 in the check.

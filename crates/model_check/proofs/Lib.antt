@@ -1,4 +1,2 @@
-pub mod Writing
 pub mod Whole
 pub mod Answers
-pub mod Last

@@ -20,7 +20,7 @@ use Rattle.path_resolution.specs.Resolution.{prefix, codeAt, stepNo}
 use Rattle.path_resolution.specs.Coded.{Coded}
 use Rattle.path_resolution.proofs.Reading.{find-le}
 use Rattle.rules_segments.specs.Kept.{Resolvable}
-use Rattle.model_check.specs.Written.{codeOf, codeBytes}
+use Rattle.path_resolution.specs.Written.{codeOf, codeBytes}
 
 of-cast : (m : Model) (t c : ℕ) → c < 32768 → stepCode (stepAt m t (cast c)) < 65536
 unfolding stepAt

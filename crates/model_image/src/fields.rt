@@ -1,7 +1,6 @@
 // Names and paths as fields of a record, and the bytes of a name.
 ghost use mathlib.Core.Path.{_≡_};
-ghost use Prim.Native.Nat.{_+_, _-_, _<_, _≤_};
-ghost use Rattle.csdl.specs.Search.{oneIf};
+ghost use Prim.Native.Nat.{_+_, _<_, _≤_};
 ghost use Rattle.packed.specs.Field.{fieldOf};
 ghost use Rattle.packed.specs.Bytes.{part};
 use csdl::Run;
@@ -41,18 +40,4 @@ pub fn text_of(names: &[u8], n: Name) -> &[u8]
     ensures { λ r. ⌜ now r ≡ part (now (names .entry)) (n .start) (n .size) ⌝ }
 {
     part_of(names, n.start as u32, n.size as u32)
-}
-
-// 1 for true, 0 for false.
-pub fn one_if(b: bool) -> u16
-    ensures { λ r. ⌜ r ≡ oneIf b ⌝ }
-{
-    if b { 1 } else { 0 }
-}
-
-// The number of an answer that is 0 for none, else a number plus 1; 0 also for none.
-pub fn less_one(x: u16) -> u16
-    ensures { λ r. ⌜ r ≡ x - 1 ⌝ }
-{
-    if x == 0 { 0 } else { x - 1 }
 }

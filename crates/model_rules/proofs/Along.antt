@@ -3,7 +3,7 @@ use Prim.Native.Nat.{ℕ, _+_, _-_, _/_, _≤_, _<_}
 use mathlib.Core.Path.{_≡_, _∙_}
 use mathlib.Core.List.{List, []}
 use native.Mathlib.Omega.{arith}
-use Rattle.csdl.specs.Search.{firstFrom, sumOf}
+use Rattle.csdl.specs.Search.{firstFrom, sumOf, placeFound}
 use Rattle.csdl.specs.Tables.{segmentCount}
 use Rattle.csdl.specs.Model.{Model, modelOf}
 use Rattle.csdl.specs.Model.Table.{segment-table}
@@ -13,7 +13,6 @@ use Rattle.csdl.specs.Path.{pathOf, holders, kindPathsWith, pathsWith}
 use Rattle.csdl.specs.Paths.{segment13, segment14, rule13, rule14}
 use Rattle.rules_segments.specs.Kept.{Resolvable}
 use Rattle.rules_segments.proofs.Resolving.{resolvable}
-use Rattle.model_rules.specs.Shifted.{shifted}
 use Rattle.model_rules.specs.Stages.{ruleNo, lowestPlace, Clear}
 use Rattle.model_rules.proofs.Order.{clear-kept}
 use Rattle.model_rules.proofs.Found.{lowest-in}
@@ -25,13 +24,13 @@ module _ (image : List ℕ) {pr ke co bi sg : List ℕ} (p : pr ≡ propertiesIn
   unfolding modelIn modelOf segment13 pathsWith sumOf kindPathsWith holders pathOf
   segments-13 = rw (p, k, c, b, s)
 
-  pub lowest-13 : {at : Layout} (l : LaidOut image at) {r n : ℕ} → n ≡ firstFrom (λ g. segment13 (modelOf [] [] pr ke co [] bi sg []) g) 0 (segmentCount sg) → r ≡ shifted (at .«segments_place») n
+  pub lowest-13 : {at : Layout} (l : LaidOut image at) {r n : ℕ} → n ≡ firstFrom (λ g. segment13 (modelOf [] [] pr ke co [] bi sg []) g) 0 (segmentCount sg) → r ≡ placeFound (at .«segments_place») n
       → r ≡ lowestPlace (modelIn image) rule13
   unfolding lowestPlace
   lowest-13 l f g = lowest-in l segment-table (λ g. segment13 (modelIn image) g) (f ∙ segments-13) g
 
 module _ {image : List ℕ} {at : Layout} (l : LaidOut image at) where
-  pub lowest-14 : {r n : ℕ} → n ≡ firstFrom (λ g. segment14 (modelIn image) g) 0 (modelIn image .segments) → r ≡ shifted (at .«segments_place») n → r ≡ lowestPlace (modelIn image) rule14
+  pub lowest-14 : {r n : ℕ} → n ≡ firstFrom (λ g. segment14 (modelIn image) g) 0 (modelIn image .segments) → r ≡ placeFound (at .«segments_place») n → r ≡ lowestPlace (modelIn image) rule14
   unfolding lowestPlace
   lowest-14 f g = lowest-in l segment-table (λ g. segment14 (modelIn image) g) f g
 

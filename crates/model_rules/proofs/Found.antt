@@ -4,13 +4,12 @@ use mathlib.Core.Path.{_≡_, refl, _∙_, ap}
 use mathlib.Core.List.{List}
 use mathlib.Core.Bool.{Bool}
 use native.Mathlib.Omega.{arith}
-use Rattle.csdl.specs.Search.{firstFrom, orElse}
+use Rattle.csdl.specs.Search.{firstFrom, orElse, placeFound}
 use Rattle.csdl.specs.Model.{Model, places, recordAt, Table, firstPlace, on}
 use Rattle.csdl.specs.Model.Table.{schema-table, type-table, property-table, key-table, constraint-table, child-table, binding-table, segment-table}
 use Rattle.csdl.specs.Image.{modelIn}
 use Rattle.csdl.specs.Verdict.{brokenAt}
 use Rattle.csdl.specs.declared.Record.{Record}
-use Rattle.model_rules.specs.Shifted.{shifted}
 use Rattle.model_rules.specs.Stages.{lowestPlace}
 use Rattle.model_rules.proofs.Tables.{records, end-is, end-within, table-lowest}
 use Rattle.model_image.specs.declared.layout.Layout.{Layout}
@@ -43,7 +42,7 @@ module _ {image : List ℕ} {at : Layout} (l : LaidOut image at) where
   pub few-places : (t : Table) → placeIn at t ≤ 2048
   few-places t = omega (arith, first-place t, end-is (modelIn image) t, end-within (modelIn image) t, l .places, l .places-most)
 
-  pub lowest-in : (t : Table) (test : ℕ → Bool) {r n : ℕ} → n ≡ firstFrom test 0 (records (modelIn image) t) → r ≡ shifted (placeIn at t) n
+  pub lowest-in : (t : Table) (test : ℕ → Bool) {r n : ℕ} → n ≡ firstFrom test 0 (records (modelIn image) t) → r ≡ placeFound (placeIn at t) n
       → r ≡ firstFrom (λ p. on t test (recordAt (modelIn image) p)) 0 (places (modelIn image))
   lowest-in t test f g = g ∙ rw (f, first-place t) (table-lowest (modelIn image) t test)
 

@@ -4,3 +4,4 @@ pub mod Tables
 pub mod Along
 pub mod Coded
 pub mod Found
+pub mod Last

@@ -5,45 +5,14 @@ use mathlib.Core.Bool.{Bool, true, false, cond, _||_}
 use native.Mathlib.Omega.{arith}
 use lib.Dec.{ltb}
 use borrow.Author.Tests.{ltb-true, ltb-false}
-use Rattle.csdl.specs.Search.{firstFrom, orElse}
+use Rattle.csdl.specs.Search.{firstFrom, orElse, placeFound}
 use Rattle.csdl.specs.Model.{Model, typesAt, propertiesAt, keysAt, constraintsAt, childrenAt, bindingsAt, segmentsAt, places, recordAt, Table, firstPlace, endPlace, on}
 use Rattle.csdl.specs.Model.Table.{schema-table, type-table, property-table, key-table, constraint-table, child-table, binding-table, segment-table}
 use Rattle.csdl.specs.declared.Record.{Record}
 use Rattle.csdl.specs.declared.Record.the-variants.{OfSchema, OfType, OfProperty, OfKey, OfConstraint, OfChild, OfBinding, OfSegment, Nowhere}
 use Rattle.csdl.proofs.Logic.{true-false, or-none, first-found, first-none, first-is, none-first}
+use Rattle.csdl.proofs.Windows.{window}
 use Rattle.csdl.proofs.Places.{schema-at, type-at, property-at, key-at, constraint-at, child-at, binding-at, segment-at}
-use Rattle.model_rules.specs.Shifted.{shifted}
-
--- A search over places whose test passes only among the n places from a on, where it is another test.
-module _ (f g : ℕ → Bool) (a n e : ℕ) (fits : a + n ≤ e) (within : (k : ℕ) → k < n → f (a + k) ≡ g k)
-    (outside : (p : ℕ) → (a ≤ p → p < a + n → ⊥) → f p ≡ false) where
-  misses : (p : ℕ) → ((k : ℕ) → k < n → p ≡ a + k → g k ≡ false) → f p ≡ false
-  misses p h = low (ltb p a) refl
-    where
-      inside : a ≤ p → p < a + n → f p ≡ false
-      inside x y =
-          let q : p ≡ a + (p - a) = omega arith in
-          let z : f (a + (p - a)) ≡ false = within (p - a) (omega arith) ∙ h (p - a) (omega arith) q in
-          rw q z
-
-      high : a ≤ p → (b : Bool) → ltb p (a + n) ≡ b → f p ≡ false
-      high x true q = inside x (ltb-true p (a + n) q)
-      high x false q = let w = ltb-false p (a + n) q in outside p (λ y z. omega arith)
-
-      low : (b : Bool) → ltb p a ≡ b → f p ≡ false
-      low true q = let w = ltb-true p a q in outside p (λ y z. omega arith)
-      low false q = high (ltb-false p a q) (ltb p (a + n)) refl
-
-  pub window : shifted a (firstFrom g 0 n) ≡ firstFrom f 0 e
-  unfolding shifted
-  window = go (firstFrom g 0 n) refl
-    where
-      go : (r : ℕ) → firstFrom g 0 n ≡ r → shifted a (firstFrom g 0 n) ≡ firstFrom f 0 e
-      go zero q = rw q (sym (none-first f 0 e (λ p x y. misses p (λ k h z. first-none g 0 n q k zero-le (omega arith)))))
-      go (suc k) q =
-          let w = first-found g 0 n k q in
-          rw q (sym (first-is f 0 e (a + k) zero-le (omega (arith, w .1)) (within k (omega (arith, w .1)) ∙ w .2)
-          (λ j x y. misses j (λ i h z. w .3 i zero-le (omega arith)))))
 
 -- The record at a place, by cases.
 module _ (P : Record → Type 0) where
@@ -166,7 +135,7 @@ module _ (m : Model) where
   here segment-table test k h = rw (segment-at m k h)
 
   -- What is found first among the records of a table is the lowest of all places.
-  pub table-lowest : (t : Table) (test : ℕ → Bool) → shifted (firstPlace m t) (firstFrom test 0 (records m t)) ≡ firstFrom (λ p. on t test (recordAt m p)) 0 (places m)
+  pub table-lowest : (t : Table) (test : ℕ → Bool) → placeFound (firstPlace m t) (firstFrom test 0 (records m t)) ≡ firstFrom (λ p. on t test (recordAt m p)) 0 (places m)
   table-lowest t test =
       let e = end-is t in
       let w = end-within t in

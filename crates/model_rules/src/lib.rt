@@ -1,9 +1,9 @@
 // The rules 3 to 19 of a model, each as the lowest place that breaks it: 0 for none, else the place plus 1. The tables that a rule reads are cut
-// from the image where it is asked. Rule 14, which keeps what the segments resolve to, is asked by the check.
-pub mod places;
-
+// from the image where it is asked.
 ghost use mathlib.Core.Path.{_≡_};
 ghost use mathlib.Core.List.{[]};
+ghost use Prim.Native.Nat.{ℕ, _≤_, _<_};
+ghost use lib.ListN.{length, getD};
 ghost use Rattle.csdl.specs.Search.{firstFrom, orElse};
 ghost use Rattle.csdl.specs.Tables.{propertyCount};
 ghost use Rattle.csdl.specs.Model.{modelOf};
@@ -15,11 +15,10 @@ ghost use Rattle.csdl.specs.Paths.{rule13, rule15, rule16, rule17, rule18, rule
 ghost use Rattle.path_resolution.specs.Coded.{Coded};
 ghost use Rattle.lookup.specs.Index.{Indexed};
 ghost use Rattle.model_rules.specs.Stages as stages;
-ghost use Rattle.model_rules.specs.Stages.{lowestPlace};
+ghost use Rattle.model_rules.specs.Stages.{Clear, lowestPlace, ruleNo};
 ghost use Rattle.model_image.specs.Laid.{Laid};
 ghost use Rattle.rules_segments.specs.Indexes.{IndexIn};
 ghost use Rattle.model_image.specs.Limits.{FewTypes, FewProperties};
-use crate::places::place_found;
 use model_image::layout::Layout;
 use model_image::layout::bindings_of;
 use model_image::layout::children_of;
@@ -31,6 +30,7 @@ use model_image::layout::record_at;
 use model_image::layout::schemas_of;
 use model_image::layout::segments_of;
 use model_image::layout::types_of;
+use model_image::numbers::place_found;
 use model_image::properties::property_count;
 use rules_bindings::bindings::first_19;
 use rules_bindings::children::first_child_18;
@@ -48,13 +48,14 @@ use rules_names::schemas::first_6;
 use rules_redeclaration::property_11;
 use rules_required_cycle::required::first_12;
 use rules_segments::cover::first_13;
+use rules_segments::unresolved::first_14;
 use rules_types::properties::first_10;
 use rules_types::types::first_8;
 use rules_types::types::first_9;
 use type_hierarchy::ancestors::all_ancestors;
 
 // Rule 3, of every record.
-pub fn lowest_3(image: &[u8], at: Layout) -> u16
+fn lowest_3(image: &[u8], at: Layout) -> u16
     requires { ⌜ Laid (now image) at ⌝ }
     ensures { λ r. ⌜ r ≡ lowestPlace (modelIn (now (image .entry))) rule3 ⌝ }
 {
@@ -71,7 +72,7 @@ pub fn lowest_3(image: &[u8], at: Layout) -> u16
 }
 
 // Rule 4, of every record.
-pub fn lowest_4(image: &[u8], at: Layout) -> u16
+fn lowest_4(image: &[u8], at: Layout) -> u16
     requires { ⌜ Laid (now image) at ⌝ }
     ensures { λ r. ⌜ r ≡ lowestPlace (modelIn (now (image .entry))) rule4 ⌝ }
 {
@@ -88,7 +89,7 @@ pub fn lowest_4(image: &[u8], at: Layout) -> u16
 }
 
 // Rule 5, of every record.
-pub fn lowest_5(image: &[u8], at: Layout) -> u16
+fn lowest_5(image: &[u8], at: Layout) -> u16
     requires { ⌜ Laid (now image) at ⌝ }
     ensures { λ r. ⌜ r ≡ lowestPlace (modelIn (now (image .entry))) rule5 ⌝ }
 {
@@ -122,7 +123,7 @@ fn earlier(a: u16, b: u16) -> u16
 }
 
 // Rule 6, of schemas.
-pub fn lowest_6(image: &[u8], at: Layout) -> u16
+fn lowest_6(image: &[u8], at: Layout) -> u16
     requires { ⌜ Laid (now image) at ⌝ }
     ensures { λ r. ⌜ r ≡ lowestPlace (modelIn (now (image .entry))) rule6 ⌝ }
 {
@@ -130,7 +131,7 @@ pub fn lowest_6(image: &[u8], at: Layout) -> u16
 }
 
 // Rule 7, of types and children.
-pub fn lowest_7(image: &[u8], at: Layout) -> u16
+fn lowest_7(image: &[u8], at: Layout) -> u16
     requires { ⌜ Laid (now image) at ⌝ }
     ensures { λ r. ⌜ r ≡ lowestPlace (modelIn (now (image .entry))) rule7 ⌝ }
 {
@@ -145,7 +146,7 @@ pub fn lowest_7(image: &[u8], at: Layout) -> u16
 }
 
 // Rule 8, of types.
-pub fn lowest_8(image: &[u8], at: Layout) -> u16
+fn lowest_8(image: &[u8], at: Layout) -> u16
     requires { ⌜ Laid (now image) at ⌝ }
     ensures { λ r. ⌜ r ≡ lowestPlace (modelIn (now (image .entry))) rule8 ⌝ }
 {
@@ -153,7 +154,7 @@ pub fn lowest_8(image: &[u8], at: Layout) -> u16
 }
 
 // Rule 9, of types.
-pub fn lowest_9(image: &[u8], at: Layout) -> u16
+fn lowest_9(image: &[u8], at: Layout) -> u16
     requires { ⌜ Laid (now image) at ⌝ }
     ensures { λ r. ⌜ r ≡ lowestPlace (modelIn (now (image .entry))) rule9 ⌝ }
 {
@@ -161,7 +162,7 @@ pub fn lowest_9(image: &[u8], at: Layout) -> u16
 }
 
 // Rule 10, of properties.
-pub fn lowest_10(image: &[u8], at: Layout) -> u16
+fn lowest_10(image: &[u8], at: Layout) -> u16
     requires { ⌜ Laid (now image) at ⌝ }
     ensures { λ r. ⌜ r ≡ lowestPlace (modelIn (now (image .entry))) rule10 ⌝ }
 {
@@ -189,7 +190,7 @@ fn first_11(types: &[u8], properties: &[u8], names: &[u8], index: &[u16]) -> u16
 }
 
 // Rule 11, of properties, which goes along the index.
-pub fn lowest_11(image: &[u8], at: Layout, index: &[u16]) -> u16
+fn lowest_11(image: &[u8], at: Layout, index: &[u16]) -> u16
     requires { ⌜ Laid (now image) at × IndexIn (now image) (now index) ⌝ }
     ensures { λ r. ⌜ r ≡ lowestPlace (modelIn (now (image .entry))) rule11 ⌝ }
 {
@@ -205,7 +206,7 @@ pub fn lowest_11(image: &[u8], at: Layout, index: &[u16]) -> u16
 }
 
 // Rule 12, of types.
-pub fn lowest_12(image: &[u8], at: Layout) -> u16
+fn lowest_12(image: &[u8], at: Layout) -> u16
     requires { ⌜ Laid (now image) at ⌝ }
     ensures { λ r. ⌜ r ≡ lowestPlace (modelIn (now (image .entry))) rule12 ⌝ }
 {
@@ -216,7 +217,7 @@ pub fn lowest_12(image: &[u8], at: Layout) -> u16
 }
 
 // Rule 13, of segments.
-pub fn lowest_13(image: &[u8], at: Layout) -> u16
+fn lowest_13(image: &[u8], at: Layout) -> u16
     requires { ⌜ Laid (now image) at ⌝ }
     ensures { λ r. ⌜ r ≡ lowestPlace (modelIn (now (image .entry))) rule13 ⌝ }
 {
@@ -233,7 +234,7 @@ pub fn lowest_13(image: &[u8], at: Layout) -> u16
 }
 
 // Rule 15, of keys, by the codes of all segments.
-pub fn lowest_15(image: &[u8], at: Layout, index: &[u16], codes: &[u32]) -> u16
+fn lowest_15(image: &[u8], at: Layout, index: &[u16], codes: &[u32]) -> u16
     requires { ⌜ Laid (now image) at × IndexIn (now image) (now index) × Coded (modelIn (now image)) (now codes) ⌝ }
     ensures { λ r. ⌜ r ≡ lowestPlace (modelIn (now (image .entry))) rule15 ⌝ }
 {
@@ -252,7 +253,7 @@ pub fn lowest_15(image: &[u8], at: Layout, index: &[u16], codes: &[u32]) -> u16
 }
 
 // Rule 16, of constraints.
-pub fn lowest_16(image: &[u8], at: Layout, codes: &[u32]) -> u16
+fn lowest_16(image: &[u8], at: Layout, codes: &[u32]) -> u16
     requires { ⌜ Laid (now image) at × Coded (modelIn (now image)) (now codes) ⌝ }
     ensures { λ r. ⌜ r ≡ lowestPlace (modelIn (now (image .entry))) rule16 ⌝ }
 {
@@ -268,7 +269,7 @@ pub fn lowest_16(image: &[u8], at: Layout, codes: &[u32]) -> u16
 }
 
 // Rule 17, of properties.
-pub fn lowest_17(image: &[u8], at: Layout, codes: &[u32]) -> u16
+fn lowest_17(image: &[u8], at: Layout, codes: &[u32]) -> u16
     requires { ⌜ Laid (now image) at × Coded (modelIn (now image)) (now codes) ⌝ }
     ensures { λ r. ⌜ r ≡ lowestPlace (modelIn (now (image .entry))) rule17 ⌝ }
 {
@@ -279,7 +280,7 @@ pub fn lowest_17(image: &[u8], at: Layout, codes: &[u32]) -> u16
 }
 
 // Rule 18, of properties and children.
-pub fn lowest_18(image: &[u8], at: Layout) -> u16
+fn lowest_18(image: &[u8], at: Layout) -> u16
     requires { ⌜ Laid (now image) at ⌝ }
     ensures { λ r. ⌜ r ≡ lowestPlace (modelIn (now (image .entry))) rule18 ⌝ }
 {
@@ -298,7 +299,7 @@ pub fn lowest_18(image: &[u8], at: Layout) -> u16
 }
 
 // Rule 19, of bindings.
-pub fn lowest_19(image: &[u8], at: Layout, codes: &[u32]) -> u16
+fn lowest_19(image: &[u8], at: Layout, codes: &[u32]) -> u16
     requires { ⌜ Laid (now image) at × Coded (modelIn (now image)) (now codes) ⌝ }
     ensures { λ r. ⌜ r ≡ lowestPlace (modelIn (now (image .entry))) rule19 ⌝ }
 {
@@ -314,4 +315,33 @@ pub fn lowest_19(image: &[u8], at: Layout, codes: &[u32]) -> u16
             codes,
         ),
     )
+}
+
+// The lowest place that breaks the rule of the number, where the rules before it are unbroken: 0 for none, else the place plus 1. Rule 14 keeps the
+// codes of the segments, which the rules after it read; nothing else changes in the table of codes.
+pub fn lowest(image: &[u8], at: Layout, index: &[u16], codes: &mut [u32], stage: u16) -> u16
+    requires { ⌜ Laid (now image) at × IndexIn (now image) (now index) × (3 ≤ stage) × (stage < 20) × Clear (modelIn (now image)) stage × (15 ≤ stage → Coded (modelIn (now image)) (now codes)) × (length (now codes) ≡ 1024) ⌝ }
+    ensures { λ r. ⌜ r ≡ lowestPlace (modelIn (now (image .entry))) (ruleNo stage) ⌝ }
+    ensures { λ r. ⌜ (14 ≤ stage → Coded (modelIn (now (image .entry))) (now (codes .exit))) ⌝ }
+    ensures { λ r. ⌜ ((stage ≡ 14 → ⊥) → now (codes .exit) ≡ now (codes .entry)) × (length (now (codes .exit)) ≡ length (now (codes .entry))) × ((g : ℕ) → (modelIn (now (image .entry))) .segments ≤ g → getD (now (codes .exit)) g 0 ≡ getD (now (codes .entry)) g 0) ⌝ }
+{
+    match stage {
+        3 => lowest_3(image, at),
+        4 => lowest_4(image, at),
+        5 => lowest_5(image, at),
+        6 => lowest_6(image, at),
+        7 => lowest_7(image, at),
+        8 => lowest_8(image, at),
+        9 => lowest_9(image, at),
+        10 => lowest_10(image, at),
+        11 => lowest_11(image, at, index),
+        12 => lowest_12(image, at),
+        13 => lowest_13(image, at),
+        14 => place_found(at.segments_place, first_14(image, at, index, codes)),
+        15 => lowest_15(image, at, index, codes),
+        16 => lowest_16(image, at, codes),
+        17 => lowest_17(image, at, codes),
+        18 => lowest_18(image, at),
+        _ => lowest_19(image, at, codes),
+    }
 }

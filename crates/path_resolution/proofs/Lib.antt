@@ -4,3 +4,4 @@ pub mod Turn
 pub mod Frame
 pub mod Reading
 pub mod Runs
+pub mod Writing

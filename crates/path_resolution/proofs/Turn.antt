@@ -1,5 +1,5 @@
 -- A path resolved so far, and one segment more. Assumes nothing.
-use Prim.Native.Nat.{ℕ, zero, suc, _+_, _-_, _≤_, _<_}
+use Prim.Native.Nat.{ℕ, zero, suc, _+_, _-_, _≤_, _<_, zero-le}
 use mathlib.Core.Path.{_≡_, refl, sym, _∙_}
 use mathlib.Core.List.{List}
 use mathlib.Core.Bool.{Bool, true, false, cond, _&&_, and-true, and-false}
@@ -50,7 +50,7 @@ reach-new k taken true h = rw and-true (go (eqb taken k) refl)
         le-leb k taken (omega arith) ∙ sym (le-leb (k + 1) (k + 1) (omega arith))
 
 module _ (m : Model) (start first : ℕ) where
-  pub resolved-start : ResolvedTo m start first 0 (replicate 16 0) 0 start
+  resolved-start : ResolvedTo m start first 0 (replicate 16 0) 0 start
   unfolding tab alongAll alongEnd
   resolved-start =
       record {
@@ -71,7 +71,7 @@ module _ (m : Model) (start first : ℕ) where
         (rw (add-one k, all-more (λ u g. movesTo m u g) (λ g. segmentAt m g) (λ u g. resolvesAt m u g) start first k, old .reach k (omega arith), ← old .goal, ← e, ← add-one k)
         (reach-new k taken ok (old .most)))
 
-    pub resolved-next : {ok : Bool} {code to : ℕ} → k < 16 → ok ≡ resolvesAt m t (segmentAt m (first + k)) → code ≡ stepCode (stepAt m t (segmentAt m (first + k)))
+    resolved-next : {ok : Bool} {code to : ℕ} → k < 16 → ok ≡ resolvesAt m t (segmentAt m (first + k)) → code ≡ stepCode (stepAt m t (segmentAt m (first + k)))
         → to ≡ movesTo m t (segmentAt m (first + k)) → ResolvedTo m start first (k + 1) (set codes k code) (cond (ok && eqb taken k) (k + 1) taken) to
     unfolding codeAt stepNo
     resolved-next {ok} {code} {to} h e f g =
@@ -102,5 +102,37 @@ module _ (m : Model) (start first : ℕ) where
         (λ k h. t .reach (k + 1) (omega (arith, t .most)) ∙ le-leb (k + 1) taken (omega arith))
         (λ k h l. t .reach (k + 1) (omega arith) ∙ lt-leb (k + 1) taken (omega arith)))
 
-    pub resolved-is : (codes ≡ codesTo m start first count) × (taken ≡ resolvedCount m start first count) × (end ≡ endOf m start (prefix m first count))
+    resolved-is : (codes ≡ codesTo m start first count) × (taken ≡ resolvedCount m start first count) × (end ≡ endOf m start (prefix m first count))
     resolved-is = (codes-are, taken-is, t .goal)
+
+-- The loop over the segments of a path, before segment k.
+pub record Along (m : Model) (start first count : ℕ) (codes : List ℕ) (taken t k : ℕ) : Type 0 where
+  pub done : ResolvedTo m start first k codes taken t
+  pub most : k ≤ count
+  pub few : count < 16
+  pub near : first < 2048
+
+pub along-start : {m : Model} {start first count : ℕ} → count < 16 → first < 2048 → Along m start first count (replicate 16 0) 0 start 0
+along-start {m} {start} {first} few near = record { done = resolved-start m start first; most = zero-le; few = few; near = near }
+
+module _ {m : Model} {start first count : ℕ} {codes : List ℕ} {taken t k : ℕ} (a : Along m start first count codes taken t k) where
+  module _ (h : k < count) where
+    pub along-number : first + k < 65536
+    along-number = omega (arith, a .few, a .near)
+
+    pub along-few : k < 16
+    along-few = omega (arith, a .few)
+
+    pub along-less : count - (k + 1) < count - k
+    along-less = omega arith
+
+    pub along-next : {ok : Bool} {code to taken′ : ℕ} → ok ≡ resolvesAt m t (segmentAt m (first + k)) → code ≡ stepCode (stepAt m t (segmentAt m (first + k)))
+        → to ≡ movesTo m t (segmentAt m (first + k)) → taken′ ≡ cond (ok && eqb taken k) (k + 1) taken → Along m start first count (set codes k code) taken′ to (k + 1)
+    along-next e f g q = record { done = rw q (resolved-next m start first codes taken t k (a .done) along-few e f g); most = omega arith; few = a .few; near = a .near }
+
+  pub along-end : count ≤ k → ResolvedTo m start first count codes taken t
+      × ((codes ≡ codesTo m start first count) × (taken ≡ resolvedCount m start first count) × (t ≡ endOf m start (prefix m first count)))
+  along-end h =
+      let e : k ≡ count = omega (arith, a .most) in
+      let r : ResolvedTo m start first count codes taken t = rw e at (a .done) in
+      (r, resolved-is m start first count codes taken t r (omega (arith, a .few)))

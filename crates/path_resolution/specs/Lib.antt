@@ -1,2 +1,3 @@
 pub mod Resolution
 pub mod Coded
+pub mod Written

@@ -1,14 +1,17 @@
 // Resolving the segments of a path in order.
 ghost use mathlib.Core.Path.{_≡_};
 ghost use mathlib.Core.List.{[]};
-ghost use mathlib.Core.Bool.{cond, _&&_};
+ghost use mathlib.Core.Bool.{cond, not, _&&_};
 ghost use Prim.Native.Nat.{_<_, _-_, _+_};
 ghost use lib.Dec.{eqb};
 ghost use Rattle.type_hierarchy.specs.AncestorSets.{setsOf};
 ghost use Rattle.lookup.specs.Index.{Indexed};
 ghost use Rattle.csdl.specs.Model.{modelOf};
 ghost use Rattle.csdl.specs.Find as find;
-ghost use Rattle.csdl.specs.Path.{segmentAt, resolvesAt, stepAt, movesTo, endOf};
+ghost use Rattle.csdl.specs.Search.{ifFound};
+ghost use Rattle.csdl.specs.Tables.{propertyTypeRef};
+ghost use Rattle.csdl.specs.Path.{noReference, segmentAt, resolvesAt, stepAt, movesTo, endOf};
+ghost use Rattle.csdl.specs.Path.Step.{property, nothing};
 ghost use Rattle.csdl.specs.Verdict.{stepCode};
 ghost use Rattle.path_resolution.specs.Resolution.{ResolvedTo, prefix, codesTo, resolvedCount};
 ghost use Rattle.model_image.specs.Limits.{FewProperties, FewTypes};
@@ -60,6 +63,30 @@ fn cast_resolves(types: &[u8], t: u32, c: u32) -> bool
     false
 }
 
+// A name resolved at t, by what it means there: 0 for nothing, else the property's number plus 1.
+fn named_move(types: &[u8], properties: &[u8], t: u32, found: u16) -> Move
+    requires { ⌜ FewTypes (now types) ⌝ }
+    ensures { λ r. ⌜ r .ok ≡ (find.structured (modelOf [] (now (types .entry)) [] [] [] [] [] [] []) t && not (eqb found 0)) ⌝ }
+    ensures { λ r. ⌜ r .code ≡ stepCode (ifFound nothing (λ p. property p) found) ⌝ }
+    ensures { λ r. ⌜ r .to ≡ ifFound noReference (λ p. propertyTypeRef (now (properties .entry)) p) found ⌝ }
+{
+    if found == 0 {
+        return Move {
+            ok: false,
+            code: 32832,
+            to: 64,
+        };
+    }
+    let p = found - 1;
+    let ok = structured(types, t);
+    let to = property_type_ref(properties, p);
+    Move {
+        ok,
+        code: p as u32,
+        to: to as u32,
+    }
+}
+
 // The segment resolved.
 fn move_at(
     types: &[u8],
@@ -95,21 +122,7 @@ fn move_at(
         segment_text(segments, names, g),
         t,
     );
-    if found == 0 {
-        return Move {
-            ok: false,
-            code: 32832,
-            to: 64,
-        };
-    }
-    let p = found - 1;
-    let ok = structured(types, t);
-    let to = property_type_ref(properties, p);
-    Move {
-        ok,
-        code: p as u32,
-        to: to as u32,
-    }
+    named_move(types, properties, t, found)
 }
 
 // One segment more resolves only if all before it do.

@@ -8,7 +8,7 @@ ghost use Rattle.csdl.specs.Paths.{keyCode, keyType, keyStep, keyEnd, constrain
 ghost use Rattle.path_resolution.specs.Resolution.{isCode, numberOf};
 ghost use Rattle.path_steps.specs.Steps.{stepTest, anyCode, stepOrEnd};
 ghost use Rattle.model_image.specs.Limits.{FewTypes};
-use model_image::fields::less_one;
+use model_image::numbers::less_one;
 use model_image::properties::property_collection;
 use model_image::properties::property_contains;
 use model_image::properties::property_navigation;

@@ -1,14 +1,17 @@
--- Rule 19, asked in two tests, at the tables that each reads. Assumes nothing.
+-- Rule 19, asked in two tests, and one of them by path, at the tables that each reads. Assumes nothing.
 use Prim.Native.Nat.{ℕ}
 use mathlib.Core.Path.{_≡_, refl}
 use mathlib.Core.List.{List, []}
 use mathlib.Core.Bool.{Bool, true, false, _||_}
+use Rattle.csdl.specs.declared.Run.{Run}
+use Rattle.csdl.specs.Tables.{childType, bindingChild, bindingPath, bindingTarget, bindingTargetPath}
 use Rattle.csdl.specs.Model.{Model, modelOf}
 use Rattle.csdl.specs.Find.{ancestorOrSelf, ancestor, ofKind, complexStep, containStep}
 use Rattle.csdl.specs.Path.{segmentAt, pathOf, startOf}
 use Rattle.csdl.specs.declared.PathKind.the-variants.{Binding, Target}
 use Rattle.csdl.specs.Paths.{nonContainment, targetStep, binding19d, binding19e}
 use Rattle.path_resolution.specs.Resolution.{codeTo, codeEnd}
+use Rattle.path_resolution.specs.Coded.{runOf}
 use Rattle.path_steps.specs.Steps.{stepTest}
 use Rattle.rules_bindings.specs.Runs.{runEnd}
 use Rattle.rules_bindings.specs.Bindings.{bindingCodes, targetCodes, endsApart, pathFails, targetFails, bindingMisled, bindingCoded}
@@ -33,3 +36,20 @@ module _ (ty pr ch bi sg nm codes : List ℕ) (b : ℕ) where
   pub binding-split : (bindingMisled (modelOf [] ty pr [] [] ch bi [] []) codes b || binding19d (modelOf [] [] [] [] [] [] bi sg nm) b) ≡ bindingCoded (modelOf [] ty pr [] [] ch bi sg nm) codes b
   unfolding modelOf bindingMisled pathOf startOf codeEnd codeTo bindingCodes targetCodes endsApart nonContainment stepTest targetStep complexStep containStep ofKind ancestorOrSelf ancestor binding19d segmentAt
   binding-split = both (modelOf [] ty pr [] [] ch bi sg nm) codes b
+
+module _ (ty pr ch bi codes : List ℕ) (b : ℕ) where
+  -- the codes of a path, and its end
+  abbrev pub runAt : Run → List ℕ
+  runAt r = runOf codes (r .first) (r .count)
+
+  abbrev pub endAt : ℕ → Run → ℕ
+  endAt child r = codeEnd (modelOf [] [] pr [] [] [] [] [] []) (childType ch child) (runAt r) (r .count)
+
+  pub misled-split :
+      (bindingCodes (modelOf [] ty pr [] [] [] [] [] []) (runAt (bindingPath bi b)) (bindingPath bi b .count)
+      || binding19e (modelOf [] [] [] [] [] ch bi [] []) b
+      || targetCodes (modelOf [] ty pr [] [] [] [] [] []) (runAt (bindingTargetPath bi b)) (bindingTargetPath bi b .count)
+      || endsApart (modelOf [] ty [] [] [] [] [] [] []) (endAt (bindingChild bi b) (bindingPath bi b)) (endAt (bindingTarget bi b) (bindingTargetPath bi b)))
+      ≡ bindingMisled (modelOf [] ty pr [] [] ch bi [] []) codes b
+  unfolding modelOf bindingMisled pathOf startOf codeEnd codeTo bindingCodes targetCodes endsApart nonContainment stepTest targetStep complexStep containStep ofKind ancestorOrSelf ancestor
+  misled-split = refl

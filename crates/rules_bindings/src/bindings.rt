@@ -1,22 +1,24 @@
 // Rule 19: bindings.
 ghost use mathlib.Core.Path.{_≡_};
 ghost use mathlib.Core.List.{[]};
-ghost use Prim.Native.Nat.{_+_, _≤_};
+ghost use mathlib.Core.Bool.{cond};
+ghost use Prim.Native.Nat.{_+_, _≤_, _<_};
 ghost use Rattle.csdl.specs.Search.{firstFrom};
-ghost use Rattle.csdl.specs.Tables.{bindingCount};
+ghost use Rattle.csdl.specs.Tables.{childType, bindingCount};
 ghost use Rattle.csdl.specs.Model.{modelOf};
-ghost use Rattle.csdl.specs.declared.PathKind.the-variants.{Binding, Target};
 ghost use Rattle.csdl.specs.Paths.{binding19d, binding19e};
+ghost use Rattle.path_resolution.specs.Resolution.{codeEnd};
+ghost use Rattle.path_resolution.specs.Coded.{runOf};
 ghost use Rattle.rules_names.specs.Digests.{Fingerprinted};
 ghost use Rattle.rules_bindings.specs.Digests.{bindingFingerprint};
-ghost use Rattle.rules_bindings.specs.Bindings.{againBound, pathFails, targetFails, bindingMisled, bindingCoded};
-ghost use Rattle.rules_bindings.specs.Runs.{runEnd};
+ghost use Rattle.rules_bindings.specs.Bindings.{bindingCodes, targetCodes, againBound, bindingMisled, bindingCoded};
 ghost use Rattle.model_image.specs.Limits.{FewBindings, FewTypes};
 use crate::forms::binding_codes;
 use crate::forms::ends_apart;
 use crate::forms::target_codes;
 use crate::same::path_digest;
 use crate::same::same_segments;
+use csdl::Run;
 use model_image::bindings::binding_child;
 use model_image::bindings::binding_count;
 use model_image::bindings::binding_path;
@@ -101,50 +103,29 @@ struct Way {
     end: u32,
 }
 
-// The path of binding b (19a to 19c).
-fn path_way(
+// A path from a child: a target path (19f, 19g), or a binding's path (19a to 19c).
+fn way_of(
     types: &[u8],
     properties: &[u8],
     children: &[u8],
-    bindings: &[u8],
     codes: &[u32],
-    b: u16,
+    child: u16,
+    path: Run,
+    target: bool,
 ) -> Way
-    requires { ⌜ FewTypes (now types) ⌝ }
-    ensures { λ r. ⌜ (r .fails ≡ pathFails (modelOf [] (now (types .entry)) (now (properties .entry)) [] [] (now (children .entry)) (now (bindings .entry)) [] []) (now (codes .entry)) b) × (r .end ≡ runEnd (modelOf [] (now (types .entry)) (now (properties .entry)) [] [] (now (children .entry)) (now (bindings .entry)) [] []) (now (codes .entry)) Binding b) ⌝ }
+    requires { ⌜ FewTypes (now types) × (path .first < 2048) × (path .count < 16) ⌝ }
+    ensures { λ r. ⌜ r .fails ≡ cond target (targetCodes (modelOf [] (now (types .entry)) (now (properties .entry)) [] [] [] [] [] []) (runOf (now (codes .entry)) (path .first) (path .count)) (path .count)) (bindingCodes (modelOf [] (now (types .entry)) (now (properties .entry)) [] [] [] [] [] []) (runOf (now (codes .entry)) (path .first) (path .count)) (path .count)) ⌝ }
+    ensures { λ r. ⌜ r .end ≡ codeEnd (modelOf [] [] (now (properties .entry)) [] [] [] [] [] []) (childType (now (children .entry)) child) (runOf (now (codes .entry)) (path .first) (path .count)) (path .count) ⌝ }
 {
-    let path = binding_path(bindings, b);
-    let run = run_of(codes, path.first, path.count);
-    let fails = binding_codes(types, properties, &run, path.count);
-    let start = child_type(children, binding_child(bindings, b));
-    let end = end_of(properties, &run, start, path.count);
-    Way {
-        fails: fails,
-        end: end,
+    let n = path.count;
+    let run = run_of(codes, path.first, n);
+    let end = end_of(properties, &run, child_type(children, child), n);
+    if target {
+        let fails = target_codes(types, properties, &run, n);
+        return Way { fails, end };
     }
-}
-
-// Its target path (19f, 19g).
-fn target_way(
-    types: &[u8],
-    properties: &[u8],
-    children: &[u8],
-    bindings: &[u8],
-    codes: &[u32],
-    b: u16,
-) -> Way
-    requires { ⌜ FewTypes (now types) ⌝ }
-    ensures { λ r. ⌜ (r .fails ≡ targetFails (modelOf [] (now (types .entry)) (now (properties .entry)) [] [] (now (children .entry)) (now (bindings .entry)) [] []) (now (codes .entry)) b) × (r .end ≡ runEnd (modelOf [] (now (types .entry)) (now (properties .entry)) [] [] (now (children .entry)) (now (bindings .entry)) [] []) (now (codes .entry)) Target b) ⌝ }
-{
-    let path = binding_target_path(bindings, b);
-    let run = run_of(codes, path.first, path.count);
-    let fails = target_codes(types, properties, &run, path.count);
-    let start = child_type(children, binding_target(bindings, b));
-    let end = end_of(properties, &run, start, path.count);
-    Way {
-        fails: fails,
-        end: end,
-    }
+    let fails = binding_codes(types, properties, &run, n);
+    Way { fails, end }
 }
 
 // Whether the paths of binding b break rule 19 (all of it but 19d), by the codes of all segments.
@@ -159,8 +140,24 @@ fn binding_misled(
     requires { ⌜ FewTypes (now types) ⌝ }
     ensures { λ r. ⌜ r ≡ bindingMisled (modelOf [] (now (types .entry)) (now (properties .entry)) [] [] (now (children .entry)) (now (bindings .entry)) [] []) (now (codes .entry)) b ⌝ }
 {
-    let path = path_way(types, properties, children, bindings, codes, b);
-    let goal = target_way(types, properties, children, bindings, codes, b);
+    let path = way_of(
+        types,
+        properties,
+        children,
+        codes,
+        binding_child(bindings, b),
+        binding_path(bindings, b),
+        false,
+    );
+    let goal = way_of(
+        types,
+        properties,
+        children,
+        codes,
+        binding_target(bindings, b),
+        binding_target_path(bindings, b),
+        true,
+    );
     path.fails
         | target_under_set(children, bindings, b)
         | goal.fails

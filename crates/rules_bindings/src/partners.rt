@@ -12,7 +12,7 @@ ghost use Rattle.csdl.specs.Find.{ancestorOrSelf};
 ghost use Rattle.type_hierarchy.specs.Sets.{Members};
 ghost use Rattle.rules_bindings.specs.Partners.{partnerLast, partnerCodes, otherPartner, containedPartner, otherContains, sharedContainment, partnerEnds, partnerCoded};
 ghost use Rattle.model_image.specs.Limits.{FewProperties, FewTypes};
-use model_image::fields::less_one;
+use model_image::numbers::less_one;
 use model_image::properties::property_contains;
 use model_image::properties::property_count;
 use model_image::properties::property_nullable;
@@ -83,22 +83,22 @@ fn other_with_partner(properties: &[u8], p: u16, q: u16) -> bool
     (q != p) & (run.count != 0)
 }
 
-// Whether q is another property of p's owner or an ancestor whose partner contains; the line has p's owner and its ancestors.
+// Whether q is another property of p's owner or an ancestor whose partner contains; `owners` has p's owner and its ancestors.
 fn other_contained(
     types: &[u8],
     properties: &[u8],
     codes: &[u32],
-    line: u64,
+    owners: u64,
     p: u16,
     q: u16,
 ) -> bool
-    requires { ⌜ FewTypes (now types) × Members 64 line (λ a. ancestorOrSelf (modelOf [] (now types) [] [] [] [] [] [] []) a (propertyOwner (now properties) p)) ⌝ }
+    requires { ⌜ FewTypes (now types) × Members 64 owners (λ a. ancestorOrSelf (modelOf [] (now types) [] [] [] [] [] [] []) a (propertyOwner (now properties) p)) ⌝ }
     ensures { λ r. ⌜ r ≡ otherContains (modelOf [] (now (types .entry)) (now (properties .entry)) [] [] [] [] [] []) (now (codes .entry)) p q ⌝ }
 {
     if !other_with_partner(properties, p, q) {
         return false;
     }
-    if !in_set(line, property_owner(properties, q)) {
+    if !in_set(owners, property_owner(properties, q)) {
         return false;
     }
     let code = partner_code(properties, codes, q);
@@ -116,11 +116,11 @@ fn shared_containment(types: &[u8], properties: &[u8], codes: &[u32], p: u16, q:
     if !property_contains(properties, q) {
         return false;
     }
-    let line = with_ancestors(types, property_owner(properties, p));
+    let owners = with_ancestors(types, property_owner(properties, p));
     let n = property_count(properties);
     let mut x: u16 = 0;
     while x < n {
-        if other_contained(types, properties, codes, line, p, x) {
+        if other_contained(types, properties, codes, owners, p, x) {
             return true;
         }
         x += 1;

@@ -16,6 +16,7 @@ use model_image::constraints::constraint_count;
 use model_image::constraints::constraint_dependent;
 use model_image::constraints::constraint_principal;
 use model_image::constraints::constraint_property;
+use model_image::numbers::alike;
 use model_image::properties::property_collection;
 use model_image::properties::property_navigation;
 use model_image::properties::property_nullable;
@@ -27,13 +28,6 @@ use path_steps::StepTest;
 use path_steps::number_of;
 use path_steps::step_or_end;
 use type_hierarchy::kinds::of_kind;
-
-// b where a is true, the opposite where it is not.
-fn alike(a: bool, b: bool) -> bool
-    ensures { λ r. ⌜ r ≡ rules.alike a b ⌝ }
-{
-    if a { b } else { !b }
-}
 
 // Whether d and r have the same type and both or neither are collections.
 fn same_shape(properties: &[u8], d: u16, r: u16) -> bool

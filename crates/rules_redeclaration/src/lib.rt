@@ -15,6 +15,7 @@ ghost use Rattle.rules_redeclaration.specs.Clashes.{clash, clashing};
 ghost use Rattle.model_image.specs.Limits.{FewProperties, FewTypes};
 use lookup::index::first_alike;
 use lookup::index::next_alike;
+use model_image::numbers::alike;
 use model_image::properties::property_collection;
 use model_image::properties::property_contains;
 use model_image::properties::property_navigation;
@@ -24,12 +25,6 @@ use model_image::properties::property_type_ref;
 use type_hierarchy::ancestors::ancestors_at;
 use type_hierarchy::bases::ancestor;
 use type_hierarchy::type_sets::in_set;
-
-fn alike(a: bool, b: bool) -> bool
-    ensures { λ r. ⌜ r ≡ rules.alike a b ⌝ }
-{
-    if a { b } else { !b }
-}
 
 // Whether two properties have the same owner.
 fn same_owner(properties: &[u8], p: u16, q: u16) -> bool

@@ -15,22 +15,22 @@ use Rattle.type_hierarchy.specs.Sets.{member, Members, setOf, stepOf}
 use Rattle.rules_required_cycle.specs.Cycles.{cyclic}
 use Rattle.rules_required_cycle.specs.Steps.{leads}
 use Rattle.csdl.proofs.Logic.{any-same}
+use Rattle.csdl.proofs.Reaching.{reaches-same}
 use Rattle.type_hierarchy.proofs.SetLaws.{member-set, set-same}
-use Rattle.rules_required_cycle.proofs.Rounds.{rounds-same}
 
--- The line has t and its ancestors.
-pub steps-lead : (m : Model) (line t u : ℕ) → ((p : ℕ) → member line (m .owner p) ≡ ancestorOrSelf m (m .owner p) t)
-    → anyFrom (λ p. leads m line u p) 0 (m .properties) ≡ requiredStep m t u
+-- The owners are t and its ancestors.
+pub steps-lead : (m : Model) (owners t u : ℕ) → ((p : ℕ) → member owners (m .owner p) ≡ ancestorOrSelf m (m .owner p) t)
+    → anyFrom (λ p. leads m owners u p) 0 (m .properties) ≡ requiredStep m t u
 unfolding leads requiredStep
-steps-lead m line t u all = any-same _ _ 0 (m .properties) (λ p a h. rw (all p))
+steps-lead m owners t u all = any-same _ _ 0 (m .properties) (λ p a h. rw (all p))
 
 -- Row t has the steps of t.
 pub cyclic-rows : (m : Model) (rows : List ℕ) → m .types ≤ 64 → ((t : ℕ) → t < m .types → Members 64 (getD rows t 0) (λ u. requiredStep m t u))
     → setOf (λ a. reaches (stepOf rows) (m .types) a a) (m .types) ≡ cyclic m
-unfolding cyclic type12 reaches
+unfolding cyclic type12
 cyclic-rows m rows h all =
     set-same _ _ (m .types)
-    (λ t l. rounds-same (stepOf rows) (λ a b. requiredStep m a b) (m .types) t l (λ x y i j. all x i y (omega arith)) (m .types) t l)
+    (λ t l. reaches-same (stepOf rows) (λ a b. requiredStep m a b) (m .types) (λ x y i j. all x i y (omega arith)) t t l)
 
 cyclic-at : (m : Model) (t : ℕ) → t < m .types → member (cyclic m) t ≡ type12 m t
 unfolding cyclic

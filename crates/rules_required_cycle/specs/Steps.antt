@@ -11,7 +11,7 @@ use Rattle.type_hierarchy.specs.Sets.{member, Members}
 
 -- p is required, leads to u, and is of a type of the set.
 unfoldable pub leads : Model → ℕ → ℕ → ℕ → Bool
-leads m line u p = required m p && eqb (m .typeRef p) u && member line (m .owner p)
+leads m owners u p = required m p && eqb (m .typeRef p) u && member owners (m .owner p)
 
 -- The rows below n got the numbers that pass the test of their row.
 pub record Stepped (n : ℕ) (test : ℕ → ℕ → Bool) (before after : List ℕ) : Type 0 where

@@ -7,7 +7,7 @@ ghost use lib.ListN.{length};
 ghost use Rattle.csdl.specs.Climb.{reaches};
 ghost use Rattle.type_hierarchy.specs.Sets.{member, Members, setOf, stepOf};
 ghost use Rattle.rules_required_cycle.specs.Closing.{Through, Closed};
-use model_image::fields::one_if;
+use model_image::numbers::one_if;
 use type_hierarchy::type_sets::in_set;
 
 // The row, and row c where c is in it.

@@ -38,8 +38,8 @@ fn required(types: &[u8], properties: &[u8], p: u16) -> bool
         & integral(types, properties, p)
 }
 
-// The lines of all types: row t has t and its ancestors.
-fn line_rows(types: &[u8]) -> [u64; 64]
+// The types whose properties each type has: row t has t and its ancestors.
+fn owner_rows(types: &[u8]) -> [u64; 64]
     requires { ⌜ FewTypes (now types) ⌝ }
     ensures { λ r. ⌜ (length r ≡ 64) × ((t : ℕ) → t < typeCount (now (types .entry)) → Members 64 (getD r t 0) (λ a. ancestorOrSelf (modelOf [] (now (types .entry)) [] [] [] [] [] [] []) a t)) ⌝ }
 {
@@ -52,36 +52,36 @@ fn line_rows(types: &[u8]) -> [u64; 64]
     rows
 }
 
-// The row of a type, and u in it where the owner is of the type's line.
-fn with_step(line: u64, row: u64, owner: u16, u: u16) -> u64
+// The row of a type, and u in it where the type has the owner's properties.
+fn with_step(owners: u64, row: u64, owner: u16, u: u16) -> u64
     requires { ⌜ owner < 64 ⌝ }
-    ensures { λ r. ⌜ Members 64 r (λ v. member row v || (eqb u v && member line owner)) ⌝ }
+    ensures { λ r. ⌜ Members 64 r (λ v. member row v || (eqb u v && member owners owner)) ⌝ }
 {
-    if in_set(line, owner) {
+    if in_set(owners, owner) {
         return with_one(row, u);
     }
     row
 }
 
 // A step to u of the owner and of every type below n that derives from it.
-fn add_step(lines: &[u64], rows: &mut [u64], n: u16, owner: u16, u: u16)
-    requires { ⌜ (length (now lines) ≡ 64) × (length (now rows) ≡ 64) × (n ≤ 64) × (owner < 64) ⌝ }
-    ensures { λ r. ⌜ Stepped n (λ t v. eqb u v && member (getD (now (lines .entry)) t 0) owner) (now (rows .entry)) (now (rows .exit)) ⌝ }
+fn add_step(owners: &[u64], rows: &mut [u64], n: u16, owner: u16, u: u16)
+    requires { ⌜ (length (now owners) ≡ 64) × (length (now rows) ≡ 64) × (n ≤ 64) × (owner < 64) ⌝ }
+    ensures { λ r. ⌜ Stepped n (λ t v. eqb u v && member (getD (now (owners .entry)) t 0) owner) (now (rows .entry)) (now (rows .exit)) ⌝ }
 {
     for t in 0..n {
-        let row = with_step(lines[t as usize], rows[t as usize], owner, u);
+        let row = with_step(owners[t as usize], rows[t as usize], owner, u);
         rows[t as usize] = row;
     }
 }
 
 // The steps that property p gives.
-fn add_property(types: &[u8], properties: &[u8], lines: &[u64], rows: &mut [u64], n: u16, p: u16)
-    requires { ⌜ FewTypes (now types) × (length (now lines) ≡ 64) × (length (now rows) ≡ 64) × (n ≤ 64) ⌝ }
-    ensures { λ r. ⌜ Stepped n (λ t v. leads (modelOf [] (now (types .entry)) (now (properties .entry)) [] [] [] [] [] []) (getD (now (lines .entry)) t 0) v p) (now (rows .entry)) (now (rows .exit)) ⌝ }
+fn add_property(types: &[u8], properties: &[u8], owners: &[u64], rows: &mut [u64], n: u16, p: u16)
+    requires { ⌜ FewTypes (now types) × (length (now owners) ≡ 64) × (length (now rows) ≡ 64) × (n ≤ 64) ⌝ }
+    ensures { λ r. ⌜ Stepped n (λ t v. leads (modelOf [] (now (types .entry)) (now (properties .entry)) [] [] [] [] [] []) (getD (now (owners .entry)) t 0) v p) (now (rows .entry)) (now (rows .exit)) ⌝ }
 {
     if required(types, properties, p) {
         add_step(
-            lines,
+            owners,
             rows,
             n,
             property_owner(properties, p),
@@ -95,12 +95,12 @@ fn step_rows(types: &[u8], properties: &[u8]) -> [u64; 64]
     requires { ⌜ FewTypes (now types) × FewProperties (now properties) ⌝ }
     ensures { λ r. ⌜ (length r ≡ 64) × ((t : ℕ) → t < typeCount (now (types .entry)) → Members 64 (getD r t 0) (λ u. rules.requiredStep (modelOf [] (now (types .entry)) (now (properties .entry)) [] [] [] [] [] []) t u)) ⌝ }
 {
-    let lines = line_rows(types);
+    let owners = owner_rows(types);
     let all = type_count(types);
     let n = property_count(properties);
     let mut rows = [0u64; 64];
     for p in 0..n {
-        add_property(types, properties, &lines, &mut rows, all, p);
+        add_property(types, properties, &owners, &mut rows, all, p);
     }
     rows
 }

@@ -1,7 +1,7 @@
 // Rule 13: every segment is in exactly one path.
 ghost use mathlib.Core.Path.{_≡_};
 ghost use mathlib.Core.List.{[]};
-ghost use Prim.Native.Nat.{ℕ, min, _+_, _≤_, _<_};
+ghost use Prim.Native.Nat.{ℕ, _+_, _≤_, _<_};
 ghost use lib.ListN.{length, getD};
 ghost use Rattle.csdl.specs.Search.{oneIf, firstFrom};
 ghost use Rattle.csdl.specs.Tables.{segmentCount};
@@ -11,16 +11,11 @@ ghost use Rattle.csdl.specs.Paths.{segment13};
 ghost use Rattle.rules_segments.specs.Cover.{inside, coverOf};
 ghost use Rattle.model_image.specs.Limits.{FewBindings, FewConstraints, FewKeys, FewProperties, FewSegments};
 use csdl::PathKind;
+use model_image::numbers::least;
 use model_image::segments::segment_count;
 use path_kinds::kinds::holder_count;
 use path_kinds::kinds::kind_at;
 use path_kinds::kinds::path_of;
-
-fn least(a: usize, b: usize) -> usize
-    ensures { λ r. ⌜ r ≡ min a b ⌝ }
-{
-    if a < b { a } else { b }
-}
 
 // One more for each number of the run.
 fn cover_run(cover: &mut [u16], first: u16, count: u16)

@@ -20,7 +20,7 @@ use type_hierarchy::kinds::of_kind;
 use type_hierarchy::kinds::structured;
 
 // Whether x is Stream, or a type definition of it.
-fn streams(types: &[u8], x: u16) -> bool
+fn is_stream(types: &[u8], x: u16) -> bool
     requires { ⌜ FewTypes (now types) ⌝ }
     ensures { λ r. ⌜ r ≡ rules.isStream (modelOf [] (now (types .entry)) [] [] [] [] [] [] []) x ⌝ }
 {
@@ -52,7 +52,7 @@ fn flags_misfit(types: &[u8], properties: &[u8], p: u16) -> bool
     let paired = partner.count != 0;
     (!navigation & paired)
         | (navigation & collection & property_nullable(properties, p))
-        | (collection & streams(types, property_type_ref(properties, p)))
+        | (collection & is_stream(types, property_type_ref(properties, p)))
         | (paired & of_kind(types, 1, property_owner(properties, p)))
 }
 

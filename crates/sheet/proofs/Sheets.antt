@@ -24,9 +24,10 @@ use Rattle.csdl.proofs.Logic.{tab-length, tab-at}
 use Rattle.csdl.proofs.Bounds.{segments-most}
 use Rattle.csdl.proofs.Verdicts.{model-then-accepts}
 use Rattle.demands.proofs.Blocks.{block-at}
-use Rattle.sheet.specs.Text.{acceptedLine, refusedLine, segmentLine}
-use Rattle.sheet.specs.Sheet.{markOf, firstLine, firstText, segmentLines, codeLines, markText, Put}
-use Rattle.sheet.proofs.Putting.{from-start}
+use Rattle.sheet_lines.specs.Text.{acceptedLine, refusedLine, segmentLine, codeLines}
+use Rattle.sheet_lines.specs.Put.{Put}
+use Rattle.sheet_lines.proofs.Putting.{from-start}
+use Rattle.sheet.specs.Sheet.{markOf, firstLine, firstText, segmentLines, markText}
 
 -- A buffer of 2,048 bytes never breaks rule 2.
 module _ (image buffer : List ℕ) (room : 2048 ≤ length buffer) where

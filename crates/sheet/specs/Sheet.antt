@@ -1,14 +1,12 @@
 -- What `mark` prints of an image, as ASCII bytes.
-use Prim.Native.Nat.{ℕ, zero, suc, _+_, _*_, _≤_}
-use mathlib.Core.Path.{_≡_}
+use Prim.Native.Nat.{ℕ, zero, suc, _+_}
 use mathlib.Core.List.{List, [], _∷_, _++_}
-use lib.ListN.{length, take, drop, getD}
 use Rattle.csdl.specs.Model.{Model, segmentsAt}
 use Rattle.csdl.specs.Image.{modelIn}
 use Rattle.csdl.specs.Path.{stepOfSegment}
 use Rattle.csdl.specs.Verdict.{Answer, modelThen, stepCode}
 use Rattle.csdl.specs.Verdict.Answer.{accepted, refused}
-use Rattle.sheet.specs.Text.{acceptedLine, refusedLine, segmentLine}
+use Rattle.sheet_lines.specs.Text.{acceptedLine, refusedLine, segmentLine}
 
 -- The mark of an image: the answer by rules 1 and 3 to 19. Rule 2 speaks of the caller's buffer, and there is none.
 unfoldable pub markOf : List ℕ → Answer
@@ -38,19 +36,3 @@ firstText image = firstLine (markOf image)
 
 unfoldable pub markText : List ℕ → List ℕ
 markText image = firstText image ++ linesAfter (modelIn image) (markOf image)
-
--- Bytes with a word put over those from `at` on.
-unfoldable pub put : List ℕ → ℕ → List ℕ → List ℕ
-put out at word = take at out ++ (word ++ drop (at + length word) out)
-
--- The word was put at `at`, and r is the place after it; all other bytes stay.
-pub record Put (before : List ℕ) (at : ℕ) (word after : List ℕ) (r : ℕ) : Type 0 where
-  pub within : r ≤ length before
-  pub same-length : length after ≡ length before
-  pub after-it : r ≡ at + length word
-  pub bytes : after ≡ put before at word
-
--- The lines of n segments from a place on, whose codes stand two bytes each, high byte first.
-unfoldable pub codeLines : List ℕ → ℕ → ℕ → List ℕ
-codeLines codes first zero = []
-codeLines codes first (suc g) = codeLines codes first g ++ segmentLine (first + g) (256 * getD codes (2 * g) 0 + getD codes (2 * g + 1) 0)

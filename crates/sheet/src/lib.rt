@@ -1,7 +1,4 @@
 // The sheet of an image: the bytes that `mark` prints, of which `explain` prints the first line.
-mod line;
-mod text;
-
 ghost use mathlib.Core.Path.{_≡_};
 ghost use mathlib.Core.List.{_++_};
 ghost use Prim.Native.Nat.{_≤_};
@@ -10,10 +7,10 @@ ghost use Rattle.io.specs.Counts.{Counts};
 ghost use Rattle.csdl.specs.Verdict.{modelMeans, modelBuffer};
 ghost use Rattle.sheet.specs.Sheet.{markOf, firstText, markText};
 use csdl::ModelAnswer;
-use line::accepted_line;
-use line::refused_line;
-use line::segment_lines;
 use model_image::layout::layout_of;
+use sheet_lines::line::accepted_line;
+use sheet_lines::line::refused_line;
+use sheet_lines::line::segment_lines;
 
 // Two bytes for each of the 1,024 segments that an image has at most, so that rule 2 is never broken.
 pub const RESOLUTION_SIZE: usize = 2048;

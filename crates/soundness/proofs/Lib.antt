@@ -13,5 +13,4 @@ pub mod Images
 pub mod PathRules
 pub mod Together
 pub mod Demands
-pub mod Worked
 pub mod Plain

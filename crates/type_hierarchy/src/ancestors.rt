@@ -30,7 +30,7 @@ fn above(types: &[u8], t: u16, left: u16) -> u64
 }
 
 // The ancestors of t.
-pub fn ancestors_of(types: &[u8], t: u16) -> u64
+fn ancestors_of(types: &[u8], t: u16) -> u64
     requires { ⌜ FewTypes (now types) ⌝ }
     ensures { λ r. ⌜ ((a : ℕ) → a < 64 → member r a ≡ ancestor (modelOf [] (now (types .entry)) [] [] [] [] [] [] []) a t) ⌝ }
 {

@@ -1,5 +1,5 @@
 -- What each name means at a type, found in one pass over the properties. Assumes nothing.
-use Prim.Native.Nat.{ℕ, zero, suc, _+_, _-_, _≤_, _<_}
+use Prim.Native.Nat.{ℕ, zero, suc, _+_, _-_, _*_, _≤_, _<_}
 use mathlib.Core.Path.{_≡_, refl, sym, ap, _∙_}
 use mathlib.Core.Bool.{Bool, true, false, _&&_}
 use mathlib.Core.List.{List, []}
@@ -83,3 +83,14 @@ module _ (types properties names index : List ℕ) (t : ℕ) (w : Ranked (λ p. 
       ∙ nearest-same _ _ (λ u. typeBase types u)
       (λ u. first-same _ _ 0 (propertyCount properties) (λ q a k. ap (λ (b : Bool). eqb (propertyOwner properties q) u && b) (same-class (λ p. nameOf properties names p) (propertyCount properties) (getD index 1536 0) index w q p (omega (arith, k)) h)))
       (typeCount types) t)
+
+-- An entry of the index is small, and so is its place in bytes.
+module _ (index : List ℕ) (n k p : ℕ) (small : (q : ℕ) → q < k → getD index (512 + q) 0 < 513) (e : n ≡ k) (h : p < n) where
+  pub entry-below : getD index (512 + p) 0 < 513
+  entry-below = small p (rw (← e) h)
+
+  pub entry-fits : getD index (512 + p) 0 < 18446744073709551616
+  entry-fits = omega (arith, entry-below)
+
+  pub entry-doubled : getD index (512 + p) 0 * 2 < 18446744073709551616
+  entry-doubled = omega (arith, entry-below)

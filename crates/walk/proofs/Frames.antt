@@ -1,6 +1,6 @@
 -- The walk over the tables of an instance is the walk over its image. Assumes nothing.
 use Prim.Native.Nat.{ℕ, _*_}
-use mathlib.Core.Path.{_≡_, refl, ap}
+use mathlib.Core.Path.{_≡_, ap}
 use mathlib.Core.List.{List, [], _∷_}
 use native.Mathlib.Omega.{arith}
 use borrow.Author.Tests.{ne-eqb}
@@ -9,7 +9,7 @@ use Rattle.csdl.specs.Search.{flat}
 use Rattle.csdl.specs.Model.{Model}
 use Rattle.csdl.specs.Image.{modelIn}
 use Rattle.csdl.specs.Instance.{Instance, instanceOf, instanceIn, nodeTypeIn}
-use Rattle.csdl.specs.Walk.{Item, walked, opened, bytesOfItem, walk28, walk29}
+use Rattle.csdl.specs.Walk.{Item, walked, opened, bytesOfItem}
 use Rattle.csdl.specs.Walk.Item.{value}
 use Rattle.instance_image.specs.Tables.{nodesIn, slotsIn, itemsIn}
 use Rattle.walk_step.specs.Seen.{itemOf, pathFrom, written, openings}
@@ -26,14 +26,6 @@ module _ (image : List ℕ) where
 
   abbrev i : Instance
   i = instanceOf no (slotsIn image) (itemsIn image)
-
-  pub is-28 : (m : Model) (t v : ℕ) → walk28 m (instanceOf no [] []) t v ≡ walk28 m (instanceIn image) t v
-  unfolding walk28 instanceOf instanceIn
-  is-28 m t v = refl
-
-  pub is-29 : (buffer : List ℕ) → walk29 (instanceOf [] (slotsIn image) (itemsIn image)) buffer ≡ walk29 (instanceIn image) buffer
-  unfolding walk29 instanceOf instanceIn
-  is-29 buffer = refl
 
   module _ (model : List ℕ) (first count v : ℕ) where
     abbrev m : Model

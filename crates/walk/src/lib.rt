@@ -27,10 +27,7 @@ use walk_items::Here;
 use walk_items::walk_from;
 use walk_path::choose;
 use walk_path::chosen_path;
-use walk_path::chosen_start;
-use walk_path::walk_27;
-use walk_path::walk_28;
-use walk_path::walk_29;
+use walk_path::refused_by;
 
 // The walk along `count` segments from segment `first` on, from node v.
 fn walk_along(
@@ -78,17 +75,9 @@ fn walk_conforming(
 {
     let at = layout_of(model);
     let chosen = choose(model, at, place, path);
-    let t = chosen_start(model, at, chosen);
-    let no_path = walk_27(chosen);
-    let bad_start = walk_28(model, at, nodes_of(instance), t, node);
-    if no_path {
-        return WalkAnswer::Refused { rule: 27, place: 0 };
-    }
-    if bad_start {
-        return WalkAnswer::Refused { rule: 28, place: 0 };
-    }
-    if walk_29(slots_of(instance), items_of(instance), results) {
-        return WalkAnswer::Refused { rule: 29, place: 0 };
+    let rule = refused_by(model, at, instance, chosen, node, results);
+    if rule != 0 {
+        return WalkAnswer::Refused { rule, place: 0 };
     }
     let run = chosen_path(model, at, chosen);
     let d = walk_along(

@@ -11,16 +11,22 @@ use borrow.Author.Tests.{eqb-true, eqb-false}
 use Rattle.csdl.specs.Search.{tab}
 use Rattle.csdl.specs.Model.{Model}
 use Rattle.csdl.specs.Path.{Segment, segmentAt}
-use Rattle.csdl.specs.Instance.{Instance}
+use Rattle.csdl.specs.Image.{modelIn}
+use Rattle.csdl.specs.Instance.{Instance, instanceOf}
 use Rattle.csdl.specs.Walk.{Item, bytesOfNumber, bytesOfItem}
 use Rattle.csdl.specs.Walk.Item.{value}
 use Rattle.csdl.specs.Walk.Origin.{at-slot}
 use Rattle.csdl.proofs.Logic.{or-no, and-cases}
-use Rattle.walk_step.specs.Seen.{nullCode, itemOf, pathFrom, written, openings, stopsAt, itemIn, StepIs}
+use Rattle.model_image.specs.Laid.{Laid, typesIn}
+use Rattle.model_image.specs.declared.layout.Layout.{Layout}
+use Rattle.instance_image.specs.Limits.{FewNodes}
+use Rattle.walk_step.specs.Seen.{nullCode, itemOf, pathFrom, written, openings, stopsAt, nextAt, itemIn, StepIs, Ancestors}
 use Rattle.walk_step.specs.declared.Next.{Next}
+use Rattle.walk_step.proofs.Moves.{step-is, item-set}
 use Rattle.walk_items.specs.declared.Here.{Here}
-use Rattle.walk_items.specs.From.{writtenFrom, openedFrom}
-use Rattle.walk_items.proofs.Going.{rest-all, Going, going-start}
+use Rattle.walk_items.specs.declared.Done.{Done}
+use Rattle.walk_items.specs.From.{nextHere, writtenFrom, openedFrom}
+use Rattle.walk_items.proofs.Going.{rest-all, Going, going-start, going-fits, going-few, going-more, going-end}
 use Rattle.walk_items.proofs.Single.{bytes, opens, bytes-null, opens-null, bytes-end, opens-end, bytes-step, count-step}
 
 or-first : (a b : Bool) → (a || b) ≡ true → b ≡ false → a ≡ true
@@ -42,15 +48,15 @@ write-is out at t v =
     rw (a, b, c)
 
 -- What item q of those that come next writes and opens.
-abbrev pub writtenBy : Model → Instance → Here → List ℕ → Next → ℕ → List ℕ
+abbrev writtenBy : Model → Instance → Here → List ℕ → Next → ℕ → List ℕ
 writtenBy m i here items next q = written m i (here .k + 1) (here .left - 1) (itemIn items next q .t) (itemIn items next q .v)
 
-abbrev pub openedBelow : Model → Instance → Here → List ℕ → Next → ℕ → List ℕ
+abbrev openedBelow : Model → Instance → Here → List ℕ → Next → ℕ → List ℕ
 openedBelow m i here items next q = openings m i (here .k + 1) (here .left - 1) (itemIn items next q .t) (itemIn items next q .v)
 
 -- The loop over the items that come next: what was written to out₀ and opened before the j-th of them.
-abbrev pub Turn : Model → Instance → Here → List ℕ → Next → List ℕ → List ℕ → ℕ → ℕ → ℕ → Type 0
-Turn m i here items next out₀ out end o j =
+abbrev Round : Model → Instance → Here → List ℕ → Next → List ℕ → List ℕ → ℕ → ℕ → ℕ → Type 0
+Round m i here items next out₀ out end o j =
     Going (writtenBy m i here items next) (openedBelow m i here items next) (writtenFrom m i here) (openedFrom m i here) out₀ (here .end) (next .first) (next .count)
     out end o j
 
@@ -83,19 +89,19 @@ module _ (m : Model) (i : Instance) (here : Here) where
         go false e =
             rw (e, eqb-true left 0 (or-first (eqb left 0) (nullCode t v) h e)) (bytes-end m i (value t v), opens-end m i (value t v))
 
-    pub stop-fits : {size : ℕ} → here .end + length (writtenFrom m i here) ≤ size → here .end + 4 ≤ size
+    stop-fits : {size : ℕ} → here .end + length (writtenFrom m i here) ≤ size → here .end + 4 ≤ size
     stop-fits fit = omega (arith, ap length (stop .0), four-bytes t v)
 
-    pub stop-is : (out : List ℕ) {out′ : List ℕ} → out′ ≡ sets out (here .end) (bytesOfItem (value t v)) →
-        (out′ ≡ sets out (here .end) (writtenFrom m i here)) × ((here .end + 4 ≡ here .end + length (writtenFrom m i here)) × (0 ≡ length (openedFrom m i here)))
-    stop-is out e = rw (stop .0, stop .1) (e, (ap (λ (n : ℕ). here .end + n) (sym (four-bytes t v)), refl))
+    stop-is : (out : List ℕ) {out′ : List ℕ} {end o : ℕ} → out′ ≡ sets out (here .end) (bytesOfItem (value t v)) → end ≡ here .end + 4 → o ≡ 0 →
+        (out′ ≡ sets out (here .end) (writtenFrom m i here)) × ((end ≡ here .end + length (writtenFrom m i here)) × (o ≡ length (openedFrom m i here)))
+    stop-is out e f g = rw (stop .0, stop .1) (e, (f ∙ ap (λ (n : ℕ). here .end + n) (sym (four-bytes t v)), g))
 
   -- Else the item is not null, and a segment is left.
   module _ (h : stopsAt left t v ≡ false) where
-    pub not-null : nullCode t v ≡ false
+    not-null : nullCode t v ≡ false
     not-null = or-no (eqb left 0) (nullCode t v) h .1
 
-    pub some-left : 0 < left
+    some-left : 0 < left
     some-left = let z : left ≡ 0 → ⊥ = eqb-false left 0 (or-no (eqb left 0) (nullCode t v) h .0) in omega arith
 
     path-more : pathFrom m k left ≡ segmentAt m k ∷ pathFrom m (k + 1) (left - 1)
@@ -106,8 +112,8 @@ module _ (m : Model) (i : Instance) (here : Here) where
     unfolding itemOf
     is-value = rw not-null
 
-    pub begin : (items : List ℕ) (next : Next) → StepIs m i (segmentAt m k) t v items next → {out : List ℕ} →
-        here .end + length (writtenFrom m i here) ≤ length out → length (openedFrom m i here) < 65536 → Turn m i here items next out out (here .end) (next .opened) 0
+    begin : (items : List ℕ) (next : Next) → StepIs m i (segmentAt m k) t v items next → {out : List ℕ} →
+        here .end + length (writtenFrom m i here) ≤ length out → length (openedFrom m i here) < 65536 → Round m i here items next out out (here .end) (next .opened) 0
     unfolding written openings
     begin items next s fit few =
         let g = segmentAt m k in
@@ -122,3 +128,98 @@ module _ (m : Model) (i : Instance) (here : Here) where
         ∙ count-step m i g gs t v ref handle first count (s .next-is)
         ∙ ap₂ _+_ (sym (s .opening-is)) (ap length (rest-all (openedBelow m i here items next) first count)) in
         going-start a b fit few
+
+-- What the walk of an item asks of the tables and the buffer.
+abbrev Asked : List ℕ → Layout → List ℕ → List ℕ → List ℕ → Here → List ℕ → Type 0
+Asked model at nodes slots items here out =
+    (Laid model at × FewNodes nodes × (here .k + here .left < 65536) × Ancestors (typesIn model) (here .t) (here .ancestors))
+    × ((here .end + length (writtenFrom (modelIn model) (instanceOf nodes slots items) here) ≤ length out)
+    × (length (openedFrom (modelIn model) (instanceOf nodes slots items) here) < 65536))
+
+-- What it gives: the buffer, where the results end, how many slots were opened.
+abbrev Given : List ℕ → List ℕ → List ℕ → List ℕ → Here → List ℕ → List ℕ → Done → Type 0
+Given model nodes slots items here out out′ d =
+    (out′ ≡ sets out (here .end) (writtenFrom (modelIn model) (instanceOf nodes slots items) here))
+    × ((d .end ≡ here .end + length (writtenFrom (modelIn model) (instanceOf nodes slots items) here))
+    × (d .opened ≡ length (openedFrom (modelIn model) (instanceOf nodes slots items) here)))
+
+-- The loop before the j-th of the items that come next.
+pub record Turn (model : List ℕ) (at : Layout) (nodes slots items : List ℕ) (here : Here) (next : Next) (out₀ out : List ℕ) (end o j : ℕ) : Type 0 where
+  pub laid : Laid model at
+  pub few-nodes : FewNodes nodes
+  pub few-segments : here .k + here .left < 65536
+  pub some : 0 < here .left
+  pub few-items : next .first + next .count < 65536
+  pub set : Ancestors (typesIn model) (next .t) (next .ancestors)
+  pub round : Round (modelIn model) (instanceOf nodes slots items) here items next out₀ out end o j
+
+module _ (model : List ℕ) (at : Layout) (nodes slots items : List ℕ) (here : Here) (out : List ℕ) (asked : Asked model at nodes slots items here out) where
+  -- Where the walk stops.
+  module _ (h : stopsAt (here .left) (here .t) (here .v) ≡ true) where
+    pub last-fits : here .end + 4 ≤ length out
+    last-fits = stop-fits (modelIn model) (instanceOf nodes slots items) here h (asked .1 .0)
+
+    pub last-is : {out′ : List ℕ} {d : Done} → out′ ≡ sets out (here .end) (bytesOfItem (value (here .t) (here .v))) → (d .end ≡ here .end + 4) × (d .opened ≡ 0) →
+        Given model nodes slots items here out out′ d
+    last-is e f = stop-is (modelIn model) (instanceOf nodes slots items) here h out e (f .0) (f .1)
+
+  -- Where it goes on.
+  pub turn-start : stopsAt (here .left) (here .t) (here .v) ≡ false → {next : Next} →
+      next ≡ nextAt (modelIn model) (instanceOf nodes slots []) (here .k) (here .t) (here .v) (next .ancestors) → Ancestors (typesIn model) (next .t) (next .ancestors) →
+      Turn model at nodes slots items here next out out (here .end) (next .opened) 0
+  turn-start h {next} e a =
+      let m = modelIn model in
+      let i = instanceOf nodes slots items in
+      let s : StepIs m i (segmentAt m (here .k)) (here .t) (here .v) items next =
+      rw e (step-is m nodes slots items (here .k) (here .t) (here .v) (next .ancestors) (not-null m i here h)) in
+      record {
+        laid = asked .0 .0;
+        few-nodes = asked .0 .1;
+        few-segments = asked .0 .2;
+        some = some-left m i here h;
+        few-items = s .small;
+        set = a;
+        round = begin m i here h items next s (asked .1 .0) (asked .1 .1);
+      }
+
+module _ {model : List ℕ} {at : Layout} {nodes slots items : List ℕ} {here : Here} {next : Next} {out₀ out : List ℕ} {end o j : ℕ}
+    (turn : Turn model at nodes slots items here next out₀ out end o j) where
+  module _ (h : j < next .count) where
+    pub turn-number : next .first + j < 65536
+    turn-number = omega (arith, turn .few-items)
+
+    pub turn-next : j + 1 < 65536
+    turn-next = omega (arith, turn .few-items)
+
+    pub turn-less : next .count - (j + 1) < next .count - j
+    turn-less = omega arith
+
+    -- The walk of the item at hand.
+    module _ {there : Here} (e : there ≡ nextHere here (itemIn items next (next .first + j)) end) where
+      pub turn-asks : {left : ℕ} → here .left ≡ left → (there .left < left) × Asked model at nodes slots items there out
+      turn-asks q =
+          let a = turn .some in
+          let b = turn .few-segments in
+          rw (e, ← q)
+          (omega arith, ((turn .laid, turn .few-nodes, omega arith, item-set _ _ _ _ (turn .set)), (going-fits (turn .round) h, omega (arith, going-few (turn .round) h))))
+
+      module _ {out′ : List ℕ} {d : Done} (g : Given model nodes slots items there out out′ d) where
+        given : Given model nodes slots items (nextHere here (itemIn items next (next .first + j)) end) out out′ d
+        given = rw e at g
+
+        pub turn-opened : o + d .opened < 65536
+        turn-opened = rw (given .1 .1) (going-few (turn .round) h)
+
+        pub turn-more : Turn model at nodes slots items here next out₀ out′ (d .end) (o + d .opened) (j + 1)
+        turn-more = record {
+          laid = turn .laid;
+          few-nodes = turn .few-nodes;
+          few-segments = turn .few-segments;
+          some = turn .some;
+          few-items = turn .few-items;
+          set = turn .set;
+          round = going-more (turn .round) h (given .0) (given .1 .0) (given .1 .1);
+        }
+
+  pub turn-end : next .count ≤ j → {d : Done} → d .end ≡ end → d .opened ≡ o → Given model nodes slots items here out₀ out d
+  turn-end h e f = let g = going-end (turn .round) h in (g .0, (e ∙ g .1 .0, f ∙ g .1 .1))

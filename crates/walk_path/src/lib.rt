@@ -1,15 +1,16 @@
 // The path that a walk takes, and rules 27 to 29.
 ghost use mathlib.Core.Path.{_≡_};
-ghost use mathlib.Core.Bool.{cond};
+ghost use mathlib.Core.Bool.{cond, false};
 ghost use mathlib.Core.List.{[]};
 ghost use Prim.Native.Nat.{_<_};
 ghost use lib.Dec.{eqb};
 ghost use Rattle.csdl.specs.Image.{modelIn};
-ghost use Rattle.csdl.specs.Instance.{instanceOf};
+ghost use Rattle.csdl.specs.Instance.{instanceOf, instanceIn, image20};
 ghost use Rattle.csdl.specs.Walk.{ifPresent, pathChosen, chosenStart, walkPath, walk27, walk28, walk29};
 ghost use Rattle.csdl.specs.declared.Chosen.the-variants.{NoPath};
 ghost use Rattle.model_image.specs.Laid.{Laid};
 ghost use Rattle.walk_path.specs.Chosen.{chosenPath};
+ghost use Rattle.walk_path.specs.Refusal.{refusal};
 ghost use Rattle.instance_image.specs.Limits.{FewItems, FewNodes, FewSlots};
 use csdl::Chosen;
 use csdl::PathKind;
@@ -19,6 +20,9 @@ use instance_image::fields::item_count;
 use instance_image::fields::node_count;
 use instance_image::fields::node_type;
 use instance_image::fields::slot_count;
+use instance_image::tables::items_of;
+use instance_image::tables::nodes_of;
+use instance_image::tables::slots_of;
 use model_image::layout::Layout;
 use model_image::layout::record_at;
 use model_image::layout::types_of;
@@ -114,7 +118,7 @@ pub fn chosen_path(model: &[u8], at: Layout, chosen: Chosen) -> Run
     }
 }
 
-pub fn chosen_start(model: &[u8], at: Layout, chosen: Chosen) -> u16
+fn chosen_start(model: &[u8], at: Layout, chosen: Chosen) -> u16
     requires { ⌜ Laid (now model) at ⌝ }
     ensures { λ r. ⌜ r ≡ chosenStart (modelIn (now (model .entry))) chosen ⌝ }
 {
@@ -125,7 +129,7 @@ pub fn chosen_start(model: &[u8], at: Layout, chosen: Chosen) -> u16
 }
 
 // Rule 27.
-pub fn walk_27(chosen: Chosen) -> bool
+fn walk_27(chosen: Chosen) -> bool
     ensures { λ r. ⌜ r ≡ walk27 chosen ⌝ }
 {
     match chosen {
@@ -135,7 +139,7 @@ pub fn walk_27(chosen: Chosen) -> bool
 }
 
 // Rule 28: t is the type at which the path starts, v the start node.
-pub fn walk_28(model: &[u8], at: Layout, nodes: &[u8], t: u16, v: u32) -> bool
+fn walk_28(model: &[u8], at: Layout, nodes: &[u8], t: u16, v: u32) -> bool
     requires { ⌜ Laid (now model) at × FewNodes (now nodes) ⌝ }
     ensures { λ r. ⌜ r ≡ walk28 (modelIn (now (model .entry))) (instanceOf (now (nodes .entry)) [] []) t v ⌝ }
 {
@@ -146,9 +150,36 @@ pub fn walk_28(model: &[u8], at: Layout, nodes: &[u8], t: u16, v: u32) -> bool
 }
 
 // Rule 29.
-pub fn walk_29(slots: &[u8], items: &[u8], results: &[u8]) -> bool
+fn walk_29(slots: &[u8], items: &[u8], results: &[u8]) -> bool
     requires { ⌜ FewSlots (now slots) × FewItems (now items) ⌝ }
     ensures { λ r. ⌜ r ≡ walk29 (instanceOf [] (now (slots .entry)) (now (items .entry))) (now (results .entry)) ⌝ }
 {
     results.len() < 4 * (1 + slot_count(slots) as usize + item_count(items) as usize)
+}
+
+// The first broken of rules 27 to 29, for a walk from the node into the buffer: 0 for none, else its number.
+pub fn refused_by(
+    model: &[u8],
+    at: Layout,
+    instance: &[u8],
+    chosen: Chosen,
+    node: u32,
+    results: &[u8],
+) -> u16
+    requires { ⌜ Laid (now model) at × (image20 (now instance) ≡ false) ⌝ }
+    ensures { λ r. ⌜ r ≡ refusal (walk27 chosen) (walk28 (modelIn (now (model .entry))) (instanceIn (now (instance .entry))) (chosenStart (modelIn (now (model .entry))) chosen) node) (walk29 (instanceIn (now (instance .entry))) (now (results .entry))) ⌝ }
+{
+    let t = chosen_start(model, at, chosen);
+    let no_path = walk_27(chosen);
+    let bad_start = walk_28(model, at, nodes_of(instance), t, node);
+    if no_path {
+        return 27;
+    }
+    if bad_start {
+        return 28;
+    }
+    if walk_29(slots_of(instance), items_of(instance), results) {
+        return 29;
+    }
+    0
 }

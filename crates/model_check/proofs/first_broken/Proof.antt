@@ -65,7 +65,7 @@ loop-again : tie.Need-loop-again Inv-loop μ-loop
 loop-again c =
     let e = c .before .before .before .before .before .before .before .before .before .before .before .before .before in
     let i = c .before .before .before .before .before .before .before .loop .inv in
-    (search needs, search needs, search needs, i .3, clear-next (modelIn (e .args .image .now)) (i .4) (sym (c .before .before .before .lowest .ensures .0) ∙ c .if1 .left), λ h. c .before .before .before .lowest .ensures .1 (omega (arith, h)))
+    (search needs, search needs, search needs, i .3, clear-next (modelIn (e .args .image .now)) (i .4) (sym (c .before .before .before .lowest .ensures .0) ∙ c .if1 .left), λ h. c .before .before .before .lowest .ensures .1 .0 (omega (arith, h)))
 
 sub-t16 : tie.Need-sub-t16 Inv-loop μ-loop
 sub-t16 c = segments-last (opened (c .before .before .before .before .before .before .before .before .pre .0)) .0

@@ -1,4 +1,3 @@
-use mathlib.Core.Path.{sym}
 use Rattle.csdl.specs.Model.{modelOf}
 use Rattle.csdl.specs.Find.{ancestor}
 use Rattle.csdl.specs.Properties as rules
@@ -53,7 +52,28 @@ alike-requires-4 c κs = search needs
 
 returns : tie.Need-returns
 unfolding modelOf ancestor rules.redeclares
-returns c = cc
+returns c =
+    let n = c .before .before .before in
+    let l = n .before .before .before in
+    let t = l .before .before .before in
+    let k = t .before .before .before in
+    rw (
+      k .alike .ensures,
+      k .before .before .property-navigation .ensures,
+      k .before .property-navigation2 .ensures,
+      t .is-above .ensures,
+      t .before .before .property-type-ref .ensures .0,
+      t .before .property-type-ref2 .ensures .0,
+      l .alike2 .ensures,
+      l .before .before .property-collection .ensures,
+      l .before .property-collection2 .ensures,
+      n .alike3 .ensures,
+      n .before .before .property-nullable .ensures,
+      n .before .property-nullable2 .ensures,
+      c .alike4 .ensures,
+      c .before .before .property-contains .ensures,
+      c .before .property-contains2 .ensures,
+    )
 
 pub redeclares-spec : {M : Type 1} → statement M
 redeclares-spec =

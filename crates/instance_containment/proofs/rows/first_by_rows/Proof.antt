@@ -8,7 +8,7 @@ use lib.ListN.{getD}
 use Rattle.csdl.proofs.Logic.{first-same}
 use Rattle.instance_containment.specs.Graph.{nodeIn, entry, stepIn, withinIn}
 use Rattle.instance_containment.specs.Rows.{inRow}
-use Rattle.instance_containment.proofs.Bridge.{reaches-same}
+use Rattle.csdl.proofs.Reaching.{reaches-same}
 use Rattle.instance_containment.proofs.rows.first_by_rows.Statement.{statement}
 use Rattle.instance_containment.proofs.rows.first_by_rows.Tie as tie
 

@@ -37,7 +37,7 @@ mul-first : tie.Need-mul-first Inv-loop μ-loop
 mul-first c = search needs
 
 array-read-first : tie.Need-array-read-first Inv-loop μ-loop
-array-read-first c = let l = c .before .loop in let a = c .before .before .before .before .before .before .args in let old = c .before .before .before .ranked .result in let f = l .inv .3 in let r = entry-read (a .properties .now) (a .names .now) old (l .index) (l .later) (l .p) (l .inv .1) (omega arith) (l .inv .0) (l .inv .2) f in omega (arith, f .size)
+array-read-first c = let l = c .before .loop in omega (arith, l .inv .0, l .inv .1)
 
 cast-first-2 : tie.Need-cast-first-2 Inv-loop μ-loop
 cast-first-2 c = let l = c .before .loop in let a = c .before .before .before .before .before .before .args in let old = c .before .before .before .ranked .result in let f = l .inv .3 in let r = entry-read (a .properties .now) (a .names .now) old (l .index) (l .later) (l .p) (l .inv .1) (omega arith) (l .inv .0) (l .inv .2) f in omega (arith, r .1)
@@ -58,7 +58,7 @@ mul-index : tie.Need-mul-index Inv-loop μ-loop
 mul-index c = search needs
 
 array-write-index : tie.Need-array-write-index Inv-loop μ-loop
-array-write-index c = let l = c .before .loop in let a = c .before .before .before .before .before .before .args in let old = c .before .before .before .ranked .result in let f = l .inv .3 in let r = entry-read (a .properties .now) (a .names .now) old (l .index) (l .later) (l .p) (l .inv .1) (omega arith) (l .inv .0) (l .inv .2) f in omega (arith, f .size)
+array-write-index c = let l = c .before .loop in omega (arith, l .inv .0, l .inv .1)
 
 mul-later : tie.Need-mul-later Inv-loop μ-loop
 mul-later c = let l = c .before .loop in let a = c .before .before .before .before .before .before .args in let old = c .before .before .before .ranked .result in let f = l .inv .3 in let r = entry-read (a .properties .now) (a .names .now) old (l .index) (l .later) (l .p) (l .inv .1) (omega arith) (l .inv .0) (l .inv .2) f in omega (arith, r .1)
@@ -94,7 +94,7 @@ loop-less : tie.Need-loop-less Inv-loop μ-loop
 loop-less c = search needs
 
 loop-again : tie.Need-loop-again Inv-loop μ-loop
-loop-again c = let l = c .before .before .before .loop in let a = c .before .before .before .before .before .before .before .before .args in let old = c .before .before .before .before .before .ranked .result in let f = l .inv .3 in let r = entry-read (a .properties .now) (a .names .now) old (l .index) (l .later) (l .p) (l .inv .1) (omega arith) (l .inv .0) (l .inv .2) f in (search needs, search needs, l .inv .2, filled-past _ _ _ _ _ _ _ _ (l .inv .1) (omega arith) (filled-step _ _ _ _ _ _ _ (l .inv .1) (omega arith) (l .inv .0) (r .0) (r .1) f))
+loop-again c = let l = c .before .before .before .loop in let a = c .before .before .before .before .before .before .before .before .args in let old = c .before .before .before .before .before .ranked .result in let f = l .inv .3 in let r = entry-read (a .properties .now) (a .names .now) old (l .index) (l .later) (l .p) (l .inv .1) (omega arith) (l .inv .0) (l .inv .2) f in (search needs, l .inv .1, l .inv .2, filled-past _ _ _ _ _ _ _ _ (l .inv .1) (omega arith) (filled-step _ _ _ _ _ _ _ (l .inv .1) (omega arith) (l .inv .0) (r .0) (r .1) f))
 
 returns : tie.Need-returns Inv-loop μ-loop
 returns c = let l = c .before .loop in let f = l .inv .3 in let e : l .p ≡ 0 = omega arith in let x = indexed _ _ _ _ _ (l .inv .1) (l .inv .2) (rw e at f) in let r = x .ranked in (x, (firsts-count _ _ _ _ r, (λ i h. add-one _ ∙ place-first _ _ _ _ r i h, λ p h. (alike-start _ _ _ x p h _ refl, x .next p h))))

@@ -1,23 +1,10 @@
-use Prim.Native.Nat.{ℕ, zero, suc, _-_}
-use mathlib.Core.Path.{_≡_, refl, sym, _∙_}
-use mathlib.Core.Bool.{Bool, not, _&&_, and-true, and-false}
-use native.Mathlib.Omega.{arith}
-use lib.Dec.{eqb, eqb·suc-zero}
-use Rattle.csdl.specs.Search.{ifFound}
+use mathlib.Core.Path.{refl}
 use Rattle.csdl.specs.Model.{modelOf}
 use Rattle.csdl.specs.Find.{structured, ancestorOrSelf, ancestor, find, own, declares}
-use Rattle.csdl.specs.Path.{noReference, segmentAt, resolvesAt, stepAt, movesTo}
-use Rattle.csdl.specs.Path.Step.{property, nothing}
-use Rattle.csdl.specs.Verdict.{stepCode}
+use Rattle.csdl.specs.Path.{segmentAt, resolvesAt, stepAt, movesTo}
 use borrow.Author.Needs.{needs}
 use Rattle.path_resolution.proofs.resolve.move_at.Statement.{statement}
 use Rattle.path_resolution.proofs.resolve.move_at.Tie as tie
-
--- A name that means a property, by what was found: its number plus 1. typed gives the type reference of a property.
-found : (f : ℕ) (at ok : Bool) (typed : ℕ → ℕ) (to : ℕ) → (f ≡ 0 → ⊥) → ok ≡ at → to ≡ typed (f - 1)
-    → (ok ≡ (at && not (eqb f 0))) × ((f - 1 ≡ stepCode (ifFound nothing (λ p. property p) f)) × (to ≡ ifFound noReference (λ p. typed p) f))
-found zero at ok typed to n e g = absurd (n refl)
-found (suc p) at ok typed to n e g = let o : suc p - 1 ≡ p = omega arith in rw (eqb·suc-zero p) (e ∙ sym (and-true at), (o, rw o at g))
 
 returns : tie.Need-returns
 unfolding modelOf segmentAt resolvesAt stepAt movesTo structured ancestorOrSelf ancestor
@@ -27,14 +14,7 @@ returns-2 : tie.Need-returns-2
 unfolding modelOf segmentAt resolvesAt stepAt movesTo structured find own declares
 returns-2 c =
     let b = c .before .before .before in
-    rw (← b .before .segment-cast .ensures, b .if1 .left, ← c .before .before .segment-text .ensures, ← c .before .find-on .ensures .0, c .if2 .taken, and-false) (refl, (refl, refl))
-
-returns-3 : tie.Need-returns-3
-unfolding modelOf segmentAt resolvesAt stepAt movesTo structured find own declares
-returns-3 c =
-    let b = c .before .before .before in
-    rw (← b .before .before .before .segment-cast .ensures, b .before .before .if1 .left, ← b .before .segment-text .ensures, ← b .find-on .ensures .0)
-    (found _ _ _ _ _ (c .before .before .if2 .left) (c .before .structured .ensures) (c .property-type-ref .ensures .0))
+    rw (← b .before .segment-cast .ensures, b .if1 .left, ← c .before .before .segment-text .ensures, ← c .before .find-on .ensures .0) (c .named-move .ensures)
 
 pub move-at-spec : {M : Type 1} → statement M
 move-at-spec =
@@ -42,15 +22,10 @@ move-at-spec =
     (tie.spec
     (λ c κs. search needs)
     (λ c κs. search needs)
-    (λ c κs. search needs)
+    (λ c κs. c .before .before .before .before .before .before .before .before .before .pre .0)
     (λ c. search needs)
     returns
     (λ c κs. search needs)
-    (λ c κs. search needs)
-    returns-2
-    (λ c. search needs)
-    (λ c κs. search needs)
-    (λ c κs. search needs)
-    (λ c. search needs)
-    (λ c. search needs)
-    returns-3)
+    (λ c κs. c .before .before .before .before .before .before .before .before .before .pre)
+    (λ c κs. c .before .before .before .before .before .before .before .before .before .before .pre .0)
+    returns-2)

@@ -4,6 +4,7 @@ use mathlib.Core.Path.{_≡_, refl, sym, _∙_, ap₂}
 use mathlib.Core.Bool.{_||_}
 use mathlib.Core.List.{[]}
 use lib.ListN.{length, length-set}
+use native.Mathlib.Nat.{lt-of-lt-of-le}
 use native.Mathlib.Omega.{arith}
 use Rattle.csdl.specs.Model.{modelOf}
 use Rattle.csdl.proofs.Loops.{First, first-start, first-hit, first-next, first-end}
@@ -29,7 +30,8 @@ slice-aggregate-binding-again c = simp length-set (sym (c .before .before .befor
 binding-again-requires : tie.Need-binding-again-requires Inv-loop μ-loop
 binding-again-requires c κs =
     let l = c .before .before .before .before .loop in
-    fingerprinted-more _ (l .b) (l .fingerprints) _ (omega (arith, l .inv .0, l .inv .1)) (c .before .before .binding-fingerprint .ensures) (l .inv .2)
+    let s = c .before .before in
+    fingerprinted-more _ (l .b) (l .fingerprints) (s .binding-fingerprint .result) (rw (l .inv .1) (lt-of-lt-of-le (s .before .loop-test .taken) (l .inv .0))) (s .binding-fingerprint .ensures) (l .inv .2)
 
 returns : tie.Need-returns Inv-loop μ-loop
 returns c =
@@ -43,13 +45,14 @@ returns c =
 
 loop-again : tie.Need-loop-again Inv-loop μ-loop
 loop-again c =
-    let k = c .before .before .before .before .before .before in
+    let s = c .before .before .before .before in
+    let k = s .before .before in
     let a = k .before .before .before .before .before .before .before .before .before .args in
     let l = k .loop in (
       l .inv .0,
       simp length-set (l .inv .1),
-      fingerprinted-more _ (l .b) (l .fingerprints) _ (omega (arith, l .inv .0, l .inv .1)) (c .before .before .before .before .binding-fingerprint .ensures) (l .inv .2),
-      first-next _ _ _ _ (l .inv .3) (c .before .before .before .before .before .loop-test .taken) (ap₂ _||_ (c .before .before .before .binding-misled .ensures) (c .before .binding-again .ensures)
+      fingerprinted-more _ (l .b) (l .fingerprints) (s .binding-fingerprint .result) (rw (l .inv .1) (lt-of-lt-of-le (s .before .loop-test .taken) (l .inv .0))) (s .binding-fingerprint .ensures) (l .inv .2),
+      first-next _ _ _ _ (l .inv .3) (s .before .loop-test .taken) (ap₂ _||_ (c .before .before .before .binding-misled .ensures) (c .before .binding-again .ensures)
           ∙ binding-split (a .types .now) (a .properties .now) (a .children .now) (a .bindings .now) (a .segments .now) (a .names .now) (a .codes .now) (l .b)) (c .if1 .left),
     )
 

@@ -12,10 +12,10 @@ use Rattle.rules_bindings.proofs.partners.shared_containment.Statement.
 use Rattle.rules_bindings.proofs.partners.shared_containment.Tie as tie
 
 abbrev Inv-loop : tie.InvT-loop
-Inv-loop types properties codes p q line n x₀ x = Any (λ k. otherContains (modelOf [] types properties [] [] [] [] [] []) codes p k) n x × (n ≤ 512)
+Inv-loop types properties codes p q owners n x₀ x = Any (λ k. otherContains (modelOf [] types properties [] [] [] [] [] []) codes p k) n x × (n ≤ 512)
 
 abbrev μ-loop : tie.MeasureT-loop
-μ-loop types properties codes p q line n x₀ x = n - x
+μ-loop types properties codes p q owners n x₀ x = n - x
 
 returns : tie.Need-returns Inv-loop μ-loop
 unfolding modelOf sharedContainment

@@ -7,7 +7,7 @@ use Rattle.rules_keys.proofs.constraints.both_complex.Tie as tie
 
 returns : tie.Need-returns
 unfolding modelOf ofKind bothComplex
-returns c = cc
+returns c = rw (c .before .before .before .before .before .property-collection .ensures, c .before .before .before .before .property-collection2 .ensures, c .before .before .of-kind .ensures, c .before .before .before .property-type-ref .ensures .0, c .of-kind2 .ensures, c .before .property-type-ref2 .ensures .0)
 
 pub both-complex-spec : {M : Type 1} → statement M
 both-complex-spec =

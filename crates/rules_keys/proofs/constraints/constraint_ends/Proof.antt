@@ -7,7 +7,7 @@ use Rattle.rules_keys.proofs.constraints.constraint_ends.Tie as tie
 
 returns : tie.Need-returns
 unfolding modelOf constraintEnds otherShape otherNullable sameShape
-returns c = cc
+returns c = rw (c .before .before .before .before .property-navigation .ensures, c .before .before .before .property-collection .ensures, c .before .before .same-shape .ensures, c .before .both-complex .ensures, c .other-nullable .ensures)
 
 pub constraint-ends-spec : {M : Type 1} → statement M
 constraint-ends-spec =

@@ -6,7 +6,7 @@ use Rattle.rules_keys.proofs.constraints.same_shape.Tie as tie
 
 returns : tie.Need-returns
 unfolding modelOf sameShape
-returns c = cc
+returns c = rw (c .before .before .before .before .property-type-ref .ensures .0, c .before .before .before .property-type-ref2 .ensures .0, c .alike .ensures, c .before .before .property-collection .ensures, c .before .property-collection2 .ensures)
 
 pub same-shape-spec : {M : Type 1} → statement M
 same-shape-spec =

@@ -3,6 +3,7 @@ use Prim.Native.Nat.{ℕ, _-_, _≤_}
 use mathlib.Core.Path.{_≡_, refl, sym, ap, _∙_}
 use mathlib.Core.List.{List, []}
 use lib.ListN.{length, length-set}
+use native.Mathlib.Nat.{lt-of-lt-of-le}
 use native.Mathlib.Omega.{arith}
 use Rattle.csdl.specs.Model.{modelOf}
 use Rattle.csdl.proofs.Loops.{First, first-start, first-hit, first-next, first-end}
@@ -57,8 +58,9 @@ slice-aggregate-key-named c = simp length-set (sym (c .before .before .before .b
 
 key-named-requires : tie.Need-key-named-requires Inv-loop μ-loop
 key-named-requires c κs =
-    let l = c .before .before .before .before .before .loop in
-    fingerprinted-more _ (l .k) (l .fingerprints) _ (omega (arith, l .inv .0, l .inv .1)) (c .before .before .before .key-fingerprint .ensures) (l .inv .2)
+    let s = c .before .before .before in
+    let l = s .before .before .loop in
+    fingerprinted-more _ (l .k) (l .fingerprints) (s .key-fingerprint .result) (rw (l .inv .1) (lt-of-lt-of-le (s .before .loop-test .taken) (l .inv .0))) (s .key-fingerprint .ensures) (l .inv .2)
 
 key-misaliased-requires : tie.Need-key-misaliased-requires Inv-loop μ-loop
 key-misaliased-requires c κs = search needs
@@ -67,7 +69,15 @@ add-result : tie.Need-add-result Inv-loop μ-loop
 add-result c = search needs
 
 returns : tie.Need-returns Inv-loop μ-loop
-returns c = rw (← c .before .before .before .before .before .before .before .before .before .before .before .key-count .ensures .0) (first-hit _ _ _ _ (c .before .before .before .before .before .before .before .before .loop .inv .3) (c .before .before .before .before .before .before .before .loop-test .taken) (rw (c .before .before .before .before .key-misled .ensures, c .before .before .key-named .ensures, c .before .key-misaliased .ensures) (key-split _ _ _ _ _ _ _)) (c .if1 .taken))
+returns c =
+    let t = c .before .before .before .before .before .before .before in
+    let l = t .before in
+    let a = l .before .before .before .before .before .before .before .before .before .before .before .args in
+    rw (← l .before .before .before .key-count .ensures .0)
+    (first-hit _ _ _ _ (l .loop .inv .3) (t .loop-test .taken)
+    (key-split (a .types .now) (a .properties .now) (a .keys .now) (a .segments .now) (a .names .now) (a .codes .now) (l .loop .k) _ _ _
+    (c .before .before .before .before .key-misled .ensures) (c .before .before .key-named .ensures) (c .before .key-misaliased .ensures))
+    (c .if1 .taken))
 
 add-k : tie.Need-add-k Inv-loop μ-loop
 add-k c = search needs
@@ -77,11 +87,17 @@ loop-less c = search needs
 
 loop-again : tie.Need-loop-again Inv-loop μ-loop
 loop-again c =
-    let l = c .before .before .before .before .before .before .before .before .loop in (
-      l .inv .0,
-      simp length-set (l .inv .1),
-      fingerprinted-more _ (l .k) (l .fingerprints) _ (omega (arith, l .inv .0, l .inv .1)) (c .before .before .before .before .before .before .key-fingerprint .ensures) (l .inv .2),
-      first-next _ _ _ _ (l .inv .3) (c .before .before .before .before .before .before .before .loop-test .taken) (rw (c .before .before .before .before .key-misled .ensures, c .before .before .key-named .ensures, c .before .key-misaliased .ensures) (key-split _ _ _ _ _ _ _)) (c .if1 .left),
+    let s = c .before .before .before .before .before .before in
+    let l = s .before .before in
+    let a = l .before .before .before .before .before .before .before .before .before .before .before .args in
+    let i = l .loop .inv in (
+      i .0,
+      simp length-set (i .1),
+      fingerprinted-more _ (l .loop .k) (l .loop .fingerprints) (s .key-fingerprint .result) (rw (i .1) (lt-of-lt-of-le (s .before .loop-test .taken) (i .0))) (s .key-fingerprint .ensures) (i .2),
+      first-next _ _ _ _ (i .3) (s .before .loop-test .taken)
+          (key-split (a .types .now) (a .properties .now) (a .keys .now) (a .segments .now) (a .names .now) (a .codes .now) (l .loop .k) _ _ _
+          (c .before .before .before .before .key-misled .ensures) (c .before .before .key-named .ensures) (c .before .key-misaliased .ensures))
+          (c .if1 .left),
     )
 
 returns-2 : tie.Need-returns-2 Inv-loop μ-loop

@@ -11,11 +11,11 @@ use Rattle.rules_required_cycle.proofs.required.add_step.Statement.{sta
 use Rattle.rules_required_cycle.proofs.required.add_step.Tie as tie
 
 abbrev Inv-loop : tie.InvT-loop
-Inv-loop lines rows₀ n owner u t₀ rows t =
-    (t ≤ n) × (n ≤ 64) × (owner < 64) × (length lines ≡ 64) × (length rows ≡ 64) × (length rows ≡ length rows₀) × Adding t (λ x v. eqb u v && member (getD lines x 0) owner) rows₀ rows
+Inv-loop owners rows₀ n owner u t₀ rows t =
+    (t ≤ n) × (n ≤ 64) × (owner < 64) × (length owners ≡ 64) × (length rows ≡ 64) × (length rows ≡ length rows₀) × Adding t (λ x v. eqb u v && member (getD owners x 0) owner) rows₀ rows
 
 abbrev μ-loop : tie.MeasureT-loop
-μ-loop lines rows₀ n owner u t₀ rows t = n - t
+μ-loop owners rows₀ n owner u t₀ rows t = n - t
 
 loop-holds : tie.Need-loop-holds Inv-loop μ-loop
 loop-holds c = (search needs, search needs, search needs, search needs, search needs, search needs, adding-start _ _)

@@ -6,7 +6,7 @@ use Rattle.rules_required_cycle.proofs.required.required.Tie as tie
 
 returns : tie.Need-returns
 unfolding modelOf rules.required
-returns c = cc
+returns c = rw (c .before .before .property-collection .ensures, c .before .property-nullable .ensures, c .integral .ensures)
 
 pub required-spec : {M : Type 1} → statement M
 required-spec =

@@ -18,12 +18,12 @@ use Rattle.rules_required_cycle.proofs.required.step_rows.Statement.{st
 use Rattle.rules_required_cycle.proofs.required.step_rows.Tie as tie
 
 abbrev Inv-loop : tie.InvT-loop
-Inv-loop types properties lines all n rows₀ p₀ rows p =
-    (length types ≤ 384) × (p ≤ n) × (n ≤ 512) × (all ≤ 64) × (length lines ≡ 64) × (length rows ≡ 64)
-    × ((t : ℕ) → t < all → Members 64 (getD rows t 0) (λ u. anyFrom (λ k. leads (modelOf [] types properties [] [] [] [] [] []) (getD lines t 0) u k) 0 p))
+Inv-loop types properties owners all n rows₀ p₀ rows p =
+    (length types ≤ 384) × (p ≤ n) × (n ≤ 512) × (all ≤ 64) × (length owners ≡ 64) × (length rows ≡ 64)
+    × ((t : ℕ) → t < all → Members 64 (getD rows t 0) (λ u. anyFrom (λ k. leads (modelOf [] types properties [] [] [] [] [] []) (getD owners t 0) u k) 0 p))
 
 abbrev μ-loop : tie.MeasureT-loop
-μ-loop types properties lines all n rows₀ p₀ rows p = n - p
+μ-loop types properties owners all n rows₀ p₀ rows p = n - p
 
 loop-holds : tie.Need-loop-holds Inv-loop μ-loop
 loop-holds c =
@@ -35,7 +35,7 @@ loop-holds c =
       search needs,
       search needs,
       search needs,
-      λ t i u h. ap (λ s. member s u) (getD-replicate 64 t 0 0 (omega (arith, i, c .before .type-count .ensures .1))) ∙ member-none u ∙ gather-start false (λ k. leads m (getD (c .before .before .line-rows .result) t 0) u k),
+      λ t i u h. ap (λ s. member s u) (getD-replicate 64 t 0 0 (omega (arith, i, c .before .type-count .ensures .1))) ∙ member-none u ∙ gather-start false (λ k. leads m (getD (c .before .before .owner-rows .result) t 0) u k),
     )
 
 loop-again : tie.Need-loop-again Inv-loop μ-loop
@@ -44,14 +44,14 @@ loop-again c =
     let m = modelOf [] (a .types .now) (a .properties .now) [] [] [] [] [] [] in
     let l = c .before .before .before .before .before .loop in
     let s = c .before .add-property .ensures in
-    let lines = c .before .before .before .before .before .before .before .before .line-rows .result in (
+    let owners = c .before .before .before .before .before .before .before .before .owner-rows .result in (
       search needs,
       search needs,
       search needs,
       search needs,
       search needs,
       search needs,
-      λ t i u h. gather-next false (λ k. leads m (getD lines t 0) u k) (l .p) _ _ (l .inv .6 t i u h) (s .row t i u h),
+      λ t i u h. gather-next false (λ k. leads m (getD owners t 0) u k) (l .p) _ _ (l .inv .6 t i u h) (s .row t i u h),
     )
 
 returns : tie.Need-returns Inv-loop μ-loop
@@ -61,11 +61,11 @@ returns c =
     let m = modelOf [] (a .types .now) (a .properties .now) [] [] [] [] [] [] in
     let l = c .before .loop in
     let n = c .before .before .property-count in
-    let lines = c .before .before .before .before .line-rows in
+    let owners = c .before .before .before .before .owner-rows in
     let e : l .p ≡ n .result = omega arith in (
       l .inv .5,
-      λ t i u h. l .inv .6 t (omega (arith, i, c .before .before .before .type-count .ensures .0)) u h ∙ ap (λ k. anyFrom (λ j. leads m (getD (lines .result) t 0) u j) 0 k) (e ∙ n .ensures .0)
-          ∙ steps-lead m (getD (lines .result) t 0) t u (λ p. lines .ensures .1 t i (m .owner p) (field-lt (a .properties .now) (56 * p) 6)),
+      λ t i u h. l .inv .6 t (omega (arith, i, c .before .before .before .type-count .ensures .0)) u h ∙ ap (λ k. anyFrom (λ j. leads m (getD (owners .result) t 0) u j) 0 k) (e ∙ n .ensures .0)
+          ∙ steps-lead m (getD (owners .result) t 0) t u (λ p. owners .ensures .1 t i (m .owner p) (field-lt (a .properties .now) (56 * p) 6)),
     )
 
 pub step-rows-spec : {M : Type 1} → statement M

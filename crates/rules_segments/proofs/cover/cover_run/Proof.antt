@@ -8,7 +8,6 @@ use Rattle.rules_segments.proofs.cover.cover_run.Statement.{statement}
 use Rattle.rules_segments.proofs.cover.cover_run.Tie as tie
 use Rattle.rules_segments.proofs.cover.cover_run.Reads as reads
 use Rattle.rules_segments.proofs.cover.cover_run.Lts as lts
-use Rattle.rules_segments.proofs.cover.least.Reads as least-reads
 
 abbrev Inv-loop : tie.InvT-loop
 Inv-loop cover₀ first count from end g₀ cover g = (first ≤ g) × (g ≤ first + count) × (end ≡ min (first + count) (length cover₀)) × (length cover ≡ length cover₀) × Counted cover₀ cover first g

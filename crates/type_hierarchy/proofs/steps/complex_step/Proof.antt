@@ -6,7 +6,7 @@ use Rattle.type_hierarchy.proofs.steps.complex_step.Tie as tie
 
 returns : tie.Need-returns
 unfolding modelOf complexStep ofKind
-returns c = cc
+returns c = rw (c .before .before .property-navigation .ensures, c .of-kind .ensures, c .before .property-type-ref .ensures .0)
 
 pub complex-step-spec : {M : Type 1} → statement M
 complex-step-spec =

@@ -6,7 +6,7 @@ use Rattle.type_hierarchy.proofs.steps.contain_step.Tie as tie
 
 returns : tie.Need-returns
 unfolding modelOf containStep
-returns c = cc
+returns c = rw (c .before .property-navigation .ensures, c .property-contains .ensures)
 
 pub contain-step-spec : {M : Type 1} → statement M
 contain-step-spec =

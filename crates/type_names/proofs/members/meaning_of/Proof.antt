@@ -1,4 +1,4 @@
-use Prim.Native.Nat.{ℕ, _+_, _-_, _≤_, _<_}
+use Prim.Native.Nat.{ℕ, _+_, _-_, _≤_, _<_, zero-le}
 use mathlib.Core.Path.{_≡_, refl, sym, ap, _∙_}
 use mathlib.Core.List.{List}
 use mathlib.Core.Logic.{⊎-elim}
@@ -8,7 +8,7 @@ use Rattle.csdl.specs.Tables.{typeBase, typeCount, propertyCount, propertyOwner
 use Rattle.type_hierarchy.specs.Near.{leftAt, only}
 use Rattle.type_hierarchy.specs.Nearness.{nearnessOf}
 use Rattle.type_hierarchy.proofs.Climbing.{nearness-size, nearness-at}
-use Rattle.type_names.proofs.Meanings.{Meant, meant-start, meant-nearer, meant-farther, meaning}
+use Rattle.type_names.proofs.Meanings.{entry-below, entry-fits, entry-doubled, Meant, meant-start, meant-nearer, meant-farther, meaning}
 use borrow.Author.Needs.{needs}
 use Rattle.type_names.proofs.members.meaning_of.Statement.{statement}
 use Rattle.type_names.proofs.members.meaning_of.Tie as tie
@@ -27,7 +27,7 @@ property-count-requires : tie.Need-property-count-requires Inv-loop μ-loop
 property-count-requires c κs = search needs
 
 loop-holds : tie.Need-loop-holds Inv-loop μ-loop
-loop-holds c = let s = c .before .before .before .before .before in (search needs, search needs, meant-start _ _ _ _ _, c .before .nearness-of .ensures, s .pre .3, s .pre .4, c .property-count .ensures .0)
+loop-holds c = let s = c .before .before .before .before .before in (zero-le, c .property-count .ensures .1, meant-start _ _ _ _ _, c .before .nearness-of .ensures, s .pre .3, s .pre .4, c .property-count .ensures .0)
 
 cast-h : tie.Need-cast-h Inv-loop μ-loop
 cast-h c = search needs
@@ -42,7 +42,7 @@ shared-slice-read-h : tie.Need-shared-slice-read-h Inv-loop μ-loop
 shared-slice-read-h c = search needs
 
 cast-h-2 : tie.Need-cast-h-2 Inv-loop μ-loop
-cast-h-2 c = let l = c .before .before .loop in omega (arith, l .inv .5 (l .p) (omega arith))
+cast-h-2 c = let l = c .before .before .loop in record { fits = entry-fits (c .before .before .before .before .before .before .before .before .args .index .now) _ _ _ (l .inv .5) (l .inv .6) (c .before .loop-test .taken) }
 
 property-owner-requires : tie.Need-property-owner-requires Inv-loop μ-loop
 property-owner-requires c κs = search needs
@@ -57,25 +57,25 @@ array-read-left : tie.Need-array-read-left Inv-loop μ-loop
 array-read-left c = let l = c .before .before .before .loop in omega (arith, ap (λ (x : List ℕ). length x) (l .inv .3) ∙ nearness-size _ _ _, c .property-owner .ensures .1)
 
 mul-if1 : tie.Need-mul-if1 Inv-loop μ-loop
-mul-if1 c = let l = c .before .before .before .loop in omega (arith, l .inv .5 (l .p) (omega arith))
+mul-if1 c = let l = c .before .before .before .loop in record { fits = entry-doubled (c .before .before .before .before .before .before .before .before .before .args .index .now) _ _ _ (l .inv .5) (l .inv .6) (c .before .before .loop-test .taken) }
 
 array-read-if1 : tie.Need-array-read-if1 Inv-loop μ-loop
-array-read-if1 c = let l = c .before .before .before .loop in omega (arith, l .inv .5 (l .p) (omega arith), l .inv .2 .size)
+array-read-if1 c = let l = c .before .before .before .loop in entry-below (c .before .before .before .before .before .before .before .before .before .args .index .now) _ _ _ (l .inv .5) (l .inv .6) (c .before .before .loop-test .taken)
 
 mul-near : tie.Need-mul-near Inv-loop μ-loop
-mul-near c = let l = c .before .before .before .before .loop in omega (arith, l .inv .5 (l .p) (omega arith))
+mul-near c = let l = c .before .before .before .before .loop in record { fits = entry-doubled (c .before .before .before .before .before .before .before .before .before .before .args .index .now) _ _ _ (l .inv .5) (l .inv .6) (c .before .before .before .loop-test .taken) }
 
 array-write-near : tie.Need-array-write-near Inv-loop μ-loop
-array-write-near c = let l = c .before .before .before .before .loop in omega (arith, l .inv .5 (l .p) (omega arith), l .inv .2 .size)
+array-write-near c = let l = c .before .before .before .before .loop in entry-below (c .before .before .before .before .before .before .before .before .before .before .args .index .now) _ _ _ (l .inv .5) (l .inv .6) (c .before .before .before .loop-test .taken)
 
 add-found : tie.Need-add-found Inv-loop μ-loop
 add-found c = search needs
 
 mul-found : tie.Need-mul-found Inv-loop μ-loop
-mul-found c = let l = c .before .before .before .before .loop in omega (arith, l .inv .5 (l .p) (omega arith))
+mul-found c = let l = c .before .before .before .before .loop in record { fits = entry-doubled (c .before .before .before .before .before .before .before .before .before .before .args .index .now) _ _ _ (l .inv .5) (l .inv .6) (c .before .before .before .loop-test .taken) }
 
 array-write-found : tie.Need-array-write-found Inv-loop μ-loop
-array-write-found c = let l = c .before .before .before .before .loop in omega (arith, l .inv .5 (l .p) (omega arith), l .inv .2 .places)
+array-write-found c = let l = c .before .before .before .before .loop in entry-below (c .before .before .before .before .before .before .before .before .before .before .args .index .now) _ _ _ (l .inv .5) (l .inv .6) (c .before .before .before .loop-test .taken)
 
 add-p : tie.Need-add-p Inv-loop μ-loop
 add-p c = search needs
@@ -90,7 +90,7 @@ loop-again c = let l = c .before .before .before .before .loop in
     let small = l .inv .5 (l .p) (omega arith) in
     let e = ap (λ (x : List ℕ). getD x (o .result) 0) (l .inv .3) ∙ nearness-at _ _ _ (o .result) (omega (arith, o .ensures .1)) ∙ ap (λ (k : ℕ). leftAt (only k) (λ u. typeBase (a .types .now) u) (typeCount (a .types .now)) (a .t)) (o .ensures .0) in (
       search needs,
-      search needs,
+      l .inv .1,
       ⊎-elim
           (λ w. rw (w .1, w .2) (meant-nearer _ _ _ _ _ _ _ _ (l .inv .2) _ refl (omega (arith, small)) _ e (w .0 .taken)))
           (λ w. rw (w .1, w .2) (meant-farther _ _ _ _ _ _ _ _ (l .inv .2) (getD (a .index .now) (512 + l .p) 0) refl (omega (arith, small)) _ e (w .0 .left)))
