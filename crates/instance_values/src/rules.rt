@@ -6,7 +6,6 @@ ghost use Rattle.csdl.specs.Search as search;
 ghost use Rattle.csdl.specs.Model.{modelOf};
 ghost use Rattle.csdl.specs.Instance.{instanceOf, slotCount, nodeCount, itemCount};
 ghost use Rattle.csdl.specs.Conforms.{node22, slot24, slotOfItem, itemProperty, isNull, carriesNode, item25of, item25};
-ghost use Rattle.csdl.specs.Find.{ancestorOrSelf};
 ghost use Rattle.instance_runs.specs.Tables.{Tabulates};
 ghost use Rattle.type_hierarchy.specs.AncestorSets.{ancestorsOf};
 ghost use Rattle.model_image.specs.Limits.{FewTypes};
@@ -24,10 +23,8 @@ use model_image::properties::property_nullable;
 use model_image::properties::property_type_ref;
 use model_image::types::type_abstract;
 use type_hierarchy::ancestors::all_ancestors;
-use type_hierarchy::ancestors::ancestors_at;
-use type_hierarchy::bases::ancestor_or_self;
+use type_hierarchy::ancestors::ancestor_or_self;
 use type_hierarchy::kinds::structured;
-use type_hierarchy::type_sets::in_set;
 
 // Rule 22.
 fn node_22(types: &[u8], nodes: &[u8], v: u16) -> bool
@@ -61,17 +58,6 @@ pub fn is_null(items: &[u8], k: u16) -> bool
     item_handle(items, k) == 0
 }
 
-// Whether t is u or derives from it, where the ancestors of all types are at hand.
-fn is_under(types: &[u8], ancestors: &[u64], u: u16, t: u16) -> bool
-    requires { ⌜ FewTypes (now types) × (now ancestors ≡ ancestorsOf (now types)) ⌝ }
-    ensures { λ r. ⌜ r ≡ ancestorOrSelf (modelOf [] (now (types .entry)) [] [] [] [] [] [] []) u t ⌝ }
-{
-    if u < 64 {
-        return (t == u) | in_set(ancestors_at(types, ancestors, t), u);
-    }
-    ancestor_or_self(types, u, t)
-}
-
 // Whether item k carries its node's type, at type u, and the node's number.
 fn carries_node(types: &[u8], nodes: &[u8], items: &[u8], ancestors: &[u64], u: u16, k: u16) -> bool
     requires { ⌜ FewTypes (now types) × FewNodes (now nodes) × (now ancestors ≡ ancestorsOf (now types)) ⌝ }
@@ -85,7 +71,7 @@ fn carries_node(types: &[u8], nodes: &[u8], items: &[u8], ancestors: &[u64], u: 
     if t != node_type(nodes, handle as u16) {
         return false;
     }
-    is_under(types, ancestors, u, t)
+    ancestor_or_self(types, ancestors, u, t)
 }
 
 // Rule 25 of an item of property p.

@@ -11,6 +11,8 @@ ghost use Rattle.csdl.specs.Find.{ancestor, ancestorOrSelf};
 ghost use Rattle.type_hierarchy.specs.Sets.{member, Members};
 ghost use Rattle.type_hierarchy.specs.AncestorSets.{setsOf, ancestorsOf};
 ghost use Rattle.model_image.specs.Limits.{FewTypes};
+use crate::bases;
+use crate::type_sets::in_set;
 use crate::type_sets::with_one;
 use model_image::types::type_base;
 use model_image::types::type_count;
@@ -116,4 +118,15 @@ pub fn ancestors_at(types: &[u8], ancestors: &[u64], t: u16) -> u64
         return ancestors[t as usize];
     }
     ancestors_of(types, t)
+}
+
+// Whether t is a or derives from it, where the ancestors of all types are at hand.
+pub fn ancestor_or_self(types: &[u8], ancestors: &[u64], a: u16, t: u16) -> bool
+    requires { ⌜ FewTypes (now types) × (now ancestors ≡ ancestorsOf (now types)) ⌝ }
+    ensures { λ r. ⌜ r ≡ ancestorOrSelf (modelOf [] (now (types .entry)) [] [] [] [] [] [] []) a t ⌝ }
+{
+    if a < 64 {
+        return (t == a) | in_set(ancestors_at(types, ancestors, t), a);
+    }
+    bases::ancestor_or_self(types, a, t)
 }

@@ -20,7 +20,7 @@ returns-3 : tie.Need-returns-3
 unfolding modelOf instanceOf carriesNode
 returns-3 c =
     let b = c .before .before .before .before in
-    rw (← b .before .before .item-handle .ensures .0, ← b .before .node-count .ensures .0, lt-ltb _ _ (b .if1 .left), ← c .before .before .before .item-ref .ensures .0, ← c .before .before .node-type .ensures .0, eq-eqb _ _ (c .before .if2 .left)) (c .is-under .ensures)
+    rw (← b .before .before .item-handle .ensures .0, ← b .before .node-count .ensures .0, lt-ltb _ _ (b .if1 .left), ← c .before .before .before .item-ref .ensures .0, ← c .before .before .node-type .ensures .0, eq-eqb _ _ (c .before .if2 .left)) (c .ancestor-or-self .ensures)
 
 pub carries-node-spec : {M : Type 1} → statement M
 carries-node-spec =
