@@ -1,9 +1,9 @@
 -- Laws of packed fields, of parts, of equal byte strings and of the two bytes of a number. Assumes nothing.
 use mathlib.Core.Path.{_≡_, refl, sym, ap, _∙_}
 use mathlib.Core.List.{List, [], _∷_}
-use mathlib.Core.Bool.{Bool, true, false, cond, _&&_, and-false, false≢true}
+use mathlib.Core.Bool.{Bool, true, false, cond, _&&_, and-true, and-false, and-assoc, false≢true}
 use Prim.Native.Nat.{ℕ, zero, suc, min, _+_, _-_, _*_, _/_, _%_, _^_, _≤_, _<_}
-use native.Mathlib.Nat.{add-zero, add-suc, add-assoc, mul-one, one-mul, mul-assoc, mul-suc, pow-zero, pow-suc, mod-one, mod-eq-of-lt, div-one, zero-div}
+use native.Mathlib.Nat.{zero-add, add-zero, add-suc, add-assoc, mul-one, one-mul, mul-assoc, mul-suc, pow-zero, pow-suc, mod-one, mod-eq-of-lt, div-one, zero-div}
 use native.Mathlib.Numerals.{add-one}
 use native.Mathlib.Omega.{arith}
 use lib.Dec.{eqb, ltb, eqb·zero-suc, eqb·suc-zero, eqb·suc-suc}
@@ -90,20 +90,6 @@ field-high s off w n = rw (field-add s off w n) (high (fieldOf s off w) n (field
 
 pub field-low : (s : List ℕ) (off w n : ℕ) → fieldOf s off (w + n) % 2 ^ n ≡ fieldOf s (off + w) n
 field-low s off w n = rw (field-add s off w n) (low (fieldOf s off w) n (field-lt s (off + w) n))
-
--- a field of the part of n bytes from byte a on
-bit-part : (s : List ℕ) (a n k : ℕ) → k < 8 * n → bit (part s a n) k ≡ bit s (8 * a + k)
-unfolding bit
-bit-part s a n k h =
-    let i : k / 8 < n = omega arith in
-    let d : (8 * a + k) / 8 ≡ a + k / 8 = omega arith in
-    let m : (8 * a + k) % 8 ≡ k % 8 = omega arith in
-    rw (d, m, getD-take n (drop a s) (k / 8) 0 i, getD-drop)
-
-pub field-part : (s : List ℕ) (a n off w : ℕ) → off + w ≤ 8 * n → fieldOf (part s a n) off w ≡ fieldOf s (8 * a + off) w
-field-part s a n off zero h = simp field-zero
-field-part s a n off (suc w) h =
-    rw (field-suc (part s a n) off w, field-suc s, field-part s a n off w (omega arith), bit-part s a n (off + w) (omega arith), add-assoc (8 * a) off w)
 
 -- whole bytes
 pub field-8 : (s : List ℕ) (k : ℕ) → getD s k 0 < 256 → fieldOf s (8 * k) 8 ≡ getD s k 0
@@ -202,6 +188,27 @@ same-common (x ∷ a) (y ∷ b) e = go (same-common a b (omega arith)) (eqb x y)
     go rest true = eqb·suc-suc (commonStart a b) (length a) ∙ rest
     go rest false = eqb·zero-suc (length a)
 
+-- parts of two strings, compared by the first byte and the others, and by the first m bytes and the next n
+same-first : (a b : List ℕ) (i n : ℕ) → i < length a → i < length b
+    → same (part a i (suc n)) (part b i (suc n)) ≡ (eqb (getD a i 0) (getD b i 0) && same (part a (i + 1) n) (part b (i + 1) n))
+unfolding same
+same-first a b i n h k = rw (add-one, drop-cons a i 0 h, drop-cons b i 0 k)
+
+pub same-two : (a b : List ℕ) (i : ℕ) → i + 2 ≤ length a → i + 2 ≤ length b
+    → (eqb (getD a i 0) (getD b i 0) && eqb (getD a (i + 1) 0) (getD b (i + 1) 0)) ≡ same (part a i 2) (part b i 2)
+unfolding same
+same-two a b i h k = sym (rw (same-first a b i 1 (omega arith) (omega arith), same-first a b (i + 1) 0 (omega arith) (omega arith), and-true))
+
+pub same-add : (a b : List ℕ) (i m n : ℕ) → i + m ≤ length a → i + m ≤ length b
+    → same (part a i (m + n)) (part b i (m + n)) ≡ (same (part a i m) (part b i m) && same (part a (i + m) n) (part b (i + m) n))
+unfolding same
+same-add a b i zero n h k = rw (zero-add n, add-zero i)
+same-add a b i (suc m) n h k =
+    let y : suc m + n ≡ suc (m + n) = omega arith in
+    let z : i + suc m ≡ i + 1 + m = omega arith in
+    let rest = same-add a b (i + 1) m n (omega arith) (omega arith) in
+    rw (y, same-first a b i (m + n) (omega arith) (omega arith), same-first a b i m (omega arith) (omega arith), z, rest, and-assoc)
+
 -- strings compared from the front, at byte i
 common-nil : (a : List ℕ) → commonStart a [] ≡ 0
 unfolding commonStart
@@ -228,42 +235,13 @@ module _ (a b : List ℕ) (i : ℕ) where
       go false e = rw (drop-of-length-le a {i = i} (ltb-false i (length a) e))
 
 -- n bytes that are alike
-common-more : (a b : List ℕ) (i n : ℕ) → i + n ≤ length a → i + n ≤ length b → ((k : ℕ) → i ≤ k → k < i + n → getD a k 0 ≡ getD b k 0)
+pub common-more : (a b : List ℕ) (i n : ℕ) → i + n ≤ length a → i + n ≤ length b → same (part a i n) (part b i n) ≡ true
     → commonStart (drop i a) (drop i b) ≡ n + commonStart (drop (i + n) a) (drop (i + n) b)
 common-more a b i zero h k e = rw (add-zero i) (omega arith)
 common-more a b i (suc n) h k e =
     let z : i + suc n ≡ i + 1 + n = omega arith in
-    rw (common-step a b i (omega arith) (omega arith) (e i (omega arith) (omega arith)), z, common-more a b (i + 1) n (omega arith) (omega arith) (λ j l m. e j (omega arith) (omega arith))) (omega arith)
-
--- n bytes whose bits are alike
-module _ (a b : List ℕ) (i : ℕ) (p : (k : ℕ) → getD a k 0 < 256) (q : (k : ℕ) → getD b k 0 < 256) where
-  bytes-alike : (n : ℕ) → fieldOf a (8 * i) (8 * n) ≡ fieldOf b (8 * i) (8 * n) → (k : ℕ) → i ≤ k → k < i + n → getD a k 0 ≡ getD b k 0
-  bytes-alike zero e k l h = absurd (omega arith)
-  bytes-alike (suc n) e k l h = go (λ f m. bytes-alike n f k l m) (eqb k (i + n)) refl
-    where
-      w : 8 * suc n ≡ 8 * n + 8
-      w = omega arith
-
-      o : 8 * i + 8 * n ≡ 8 * (i + n)
-      o = omega arith
-
-      f : fieldOf a (8 * i) (8 * n + 8) ≡ fieldOf b (8 * i) (8 * n + 8)
-      f = rw (← w) e
-
-      last : getD a (i + n) 0 ≡ getD b (i + n) 0
-      last =
-          sym (field-8 a (i + n) (p (i + n)))
-          ∙ rw (← o) (sym (field-low a (8 * i) (8 * n) 8) ∙ ap (λ (x : ℕ). x % 2 ^ 8) f ∙ field-low b (8 * i) (8 * n) 8)
-          ∙ field-8 b (i + n) (q (i + n))
-
-      go : (fieldOf a (8 * i) (8 * n) ≡ fieldOf b (8 * i) (8 * n) → k < i + n → getD a k 0 ≡ getD b k 0) → (c : Bool) → eqb k (i + n) ≡ c → getD a k 0 ≡ getD b k 0
-      go rest true g = rw (eqb-true k (i + n) g) last
-      go rest false g =
-          let z = eqb-false k (i + n) g in
-          rest (sym (field-high a (8 * i) (8 * n) 8) ∙ ap (λ (x : ℕ). x / 2 ^ 8) f ∙ field-high b (8 * i) (8 * n) 8) (omega (arith, h, z))
-
-  pub common-eight : i + 8 ≤ length a → i + 8 ≤ length b → fieldOf a (8 * i) 64 ≡ fieldOf b (8 * i) 64 → commonStart (drop i a) (drop i b) ≡ 8 + commonStart (drop (i + 8) a) (drop (i + 8) b)
-  common-eight h k e = common-more a b i 8 h k (bytes-alike 8 e)
+    let p = both _ _ (sym (same-first a b i n (omega arith) (omega arith)) ∙ e) in
+    rw (common-step a b i (omega arith) (omega arith) (eqb-true _ _ (p .0)), z, common-more a b (i + 1) n (omega arith) (omega arith) (p .1)) (omega arith)
 
 -- eight bytes, as the code reads them
 pub field-64 : (s : List ℕ) (k x y : ℕ) → x ≡ fieldOf s (8 * k) 32 → y ≡ fieldOf s (8 * (k + 4)) 32 → x * 2 ^ 32 + y ≡ fieldOf s (8 * k) 64

@@ -198,6 +198,29 @@ pub fn eight_at(s: &[u8], i: usize) -> u64
     joined(word_at(s, i), word_at(s, i + 4), 32, 32)
 }
 
+// Whether two strings have the same two bytes from byte i on; the same four; the same eight. All bytes are compared, so that the compiler takes
+// the eight as one number.
+fn same_two(a: &[u8], b: &[u8], i: usize) -> bool
+    requires { ⌜ (i + 2 ≤ length (now a)) × (i + 2 ≤ length (now b)) ⌝ }
+    ensures { λ r. ⌜ r ≡ same (part (now (a .entry)) i 2) (part (now (b .entry)) i 2) ⌝ }
+{
+    (a[i] == b[i]) & (a[i + 1] == b[i + 1])
+}
+
+fn same_four(a: &[u8], b: &[u8], i: usize) -> bool
+    requires { ⌜ (i + 4 ≤ length (now a)) × (i + 4 ≤ length (now b)) ⌝ }
+    ensures { λ r. ⌜ r ≡ same (part (now (a .entry)) i 4) (part (now (b .entry)) i 4) ⌝ }
+{
+    same_two(a, b, i) & same_two(a, b, i + 2)
+}
+
+fn same_eight(a: &[u8], b: &[u8], i: usize) -> bool
+    requires { ⌜ (i + 8 ≤ length (now a)) × (i + 8 ≤ length (now b)) ⌝ }
+    ensures { λ r. ⌜ r ≡ same (part (now (a .entry)) i 8) (part (now (b .entry)) i 8) ⌝ }
+{
+    same_four(a, b, i) & same_four(a, b, i + 4)
+}
+
 // How many of the first n bytes two strings begin alike in, as far as eight bytes at a time tell.
 fn alike_eights(a: &[u8], b: &[u8], n: usize) -> usize
     requires { ⌜ (n ≤ length (now a)) × (n ≤ length (now b)) ⌝ }
@@ -205,10 +228,11 @@ fn alike_eights(a: &[u8], b: &[u8], n: usize) -> usize
 {
     let mut i: usize = 0;
     while i + 8 <= n {
-        if eight_in(a, i) != eight_in(b, i) {
+        if same_eight(a, b, i) {
+            i += 8;
+        } else {
             return i;
         }
-        i += 8;
     }
     i
 }

@@ -3,7 +3,7 @@ use mathlib.Core.Path.{_≡_, refl, sym, _∙_}
 use native.Mathlib.Omega.{arith}
 use lib.ListN.{length, drop}
 use Rattle.packed.specs.Bytes.{commonStart}
-use Rattle.packed.proofs.Laws.{common-eight}
+use Rattle.packed.proofs.Laws.{common-more}
 use borrow.Author.Needs.{needs}
 use Rattle.packed.proofs.alike_eights.Statement.{statement}
 use Rattle.packed.proofs.alike_eights.Tie as tie
@@ -16,11 +16,11 @@ abbrev μ-loop : tie.MeasureT-loop
 
 loop-again : tie.Need-loop-again Inv-loop μ-loop
 loop-again c =
-    let d = c .before .before .before .before in
+    let d = c .before .before .before in
     let l = d .loop in
     let a = d .before .before .before .args in
-    let e = sym (c .before .before .eight-in .ensures) ∙ c .if1 .left ∙ c .before .eight-in2 .ensures in
-    let more = common-eight (a .a .now) (a .b .now) (l .i) (λ k. omega (arith, d .before .before .shared-slice-known .given k)) (λ k. omega (arith, d .before .shared-slice-known2 .given k)) (omega arith) (omega arith) e in
+    let e = sym (c .before .same-eight .ensures) ∙ c .if1 .taken in
+    let more = common-more (a .a .now) (a .b .now) (l .i) 8 (omega arith) (omega arith) e in
     (search needs, search needs, search needs, omega (arith, l .inv .3, more))
 
 pub alike-eights-spec : {M : Type 1} → statement M
@@ -32,9 +32,8 @@ alike-eights-spec =
     (λ c. (search needs, search needs, search needs, search needs))
     (λ c. search needs)
     (λ c κs. search needs)
-    (λ c κs. search needs)
-    (λ c. search needs)
     (λ c. search needs)
     (λ c. search needs)
     loop-again
+    (λ c. search needs)
     (λ c. search needs))
