@@ -96,7 +96,8 @@ rule 8   a base is of the type's own kind;
          a type is open if its base is, and has media if its base has;
          a structured type has no underlying type, a type definition has one;
          an enumeration has the underlying type Byte, SByte, Int16, Int32 or Int64
-section  CSDL XML 4.02: 6, 6.1 to 6.4, 9, 9.1, 9.3, 10, 10.1, 11, 11.1
+section  CSDL XML 4.02: 6.1 to 6.4, 9, 9.1, 9.3, 10, 10.1, 11, 11.1; set by document 01: no underlying
+           type of a structured type, and that an enumeration states its own
 ",
         ),
         9 => text(
@@ -121,7 +122,7 @@ section  CSDL XML 4.02: 3.3, 7, 7.1, 8, 8.1 to 8.4
 rule 11  a property does not have the name of an earlier property of its owner;
          it has the name of an ancestor's property only if both or neither navigate, its type
            derives from that one's, and the two agree in collection, nullable and contains
-section  CSDL XML 4.02: 7, 8; that the two agree is set by document 01
+section  CSDL XML 4.02: 6, 7, 8, 9; that the two agree is set by document 01
 ",
         ),
         12 => text(
@@ -150,7 +151,8 @@ section  none: set by document 01
 rule 14  every segment resolves;
          a name needs a structured type that has a property of that name, its own or an ancestor's;
          a cast needs a structured type that is the type reached so far or derives from it
-section  CSDL XML 4.02: 13.4.1, 14.4.1.1
+section  CSDL XML 4.02: 14.4.1.1, for paths by 6.5, 8.3, 8.5, 13.4.1 and 13.4.2; that another cast is a
+           fault is set by document 01
 ",
         ),
         15 => text(
@@ -163,7 +165,7 @@ rule 15  a key is of an entity type, none of whose ancestors has keys;
          it has an alias exactly if it has more than one segment;
          its alias, or else its one name, is not that of an earlier key of the owner;
          its alias is not the name of a property of the owner or of an ancestor
-section  CSDL XML 4.02: 6.5
+section  CSDL XML 4.02: 6.5, 9
 ",
         ),
         16 => text(
@@ -199,7 +201,7 @@ section  CSDL XML 4.02: 8.3, 8.4
 rule 18  an entity set or contained collection is of a type with a key, its own or an ancestor's;
          an entity set or singleton is of an entity type;
          an entity set is not nullable
-section  CSDL XML 4.02: 6.5, 8.4, 13.2, 13.3
+section  CSDL XML 4.02: 6.5, 8.1, 8.4, 13.2, 13.3
 ",
         ),
         19 => text(
@@ -211,7 +213,8 @@ rule 19  a binding path has a name;
          a target path is not under an entity set, and has no cast;
          its steps are single complex or single containment, the last is any containment;
          of the types where the two paths end, one is the other or derives from it
-section  CSDL XML 4.02: 13.4.1, 13.4.2; that the ends are so related is set by document 01
+section  CSDL XML 4.02: 8.4, 13.4.1, 13.4.2; set by document 01: no cast in a target path, and that the
+           ends are so related
 ",
         ),
         _ => {}

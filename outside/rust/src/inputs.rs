@@ -27,7 +27,7 @@ const fn row(name: &'static str, goal: f64, limit: f64, make: fn() -> Case) -> R
 }
 
 /// The limits of the test, all in this table: twice the goals.
-pub const ROWS: [Row; 21] = [
+pub const ROWS: [Row; 29] = [
     row("worked example", 1.0, 2.0, worked),
     row("middle model", 1.0, 2.0, middle_model),
     row(LARGEST, 1.0, 2.0, largest),
@@ -39,6 +39,12 @@ pub const ROWS: [Row; 21] = [
     row("names redeclared: no segment", 3.0, 6.0, names_alone),
     row("types and children, names alike", 3.0, 6.0, names_alike),
     row("128 keys, aliases alike", 3.0, 6.0, aliases_alike),
+    row("types and children, one digest", 3.0, 6.0, names_digest),
+    row("64 keys, aliases of one digest", 3.0, 6.0, aliases_digest),
+    row("128 bindings, names of one digest", 3.0, 6.0, bindings_digest),
+    row("16 schemas, names alike", 3.0, 6.0, schemas_alike),
+    row("512 long names, no node", 3.0, 6.0, names_unused),
+    row("refused 3: 512 long names", 3.0, 6.0, spare_bit),
     row("512 partners", 3.0, 6.0, partners),
     row("instance of 2,048 items", 3.0, 6.0, full),
     row(
@@ -47,9 +53,11 @@ pub const ROWS: [Row; 21] = [
         6.0,
         runs_over_all,
     ),
+    row("refused 21: each slot has no item", 3.0, 6.0, runs_past),
     row("refused 26: 256 nodes, one twice", 3.0, 6.0, held_twice),
     row("1,800 items at depth 62", 3.0, 6.0, deep_items),
     row("walk through 13 casts", 3.0, 6.0, casts),
+    row("2,046 items through a cast", 3.0, 6.0, one_cast),
     row("refused 9: circle of 64 bases", 3.0, 6.0, circle),
     row("refused 14: last segment lost", 3.0, 6.0, lost),
     row("refused 19: last binding", 3.0, 6.0, last_binding),
@@ -244,6 +252,109 @@ fn aliases_alike() -> Case {
     model_case(&m.encode(&Layout::plain()))
 }
 
+/// Name number i of 128, of 56 bytes each. Two blocks of eight bytes that leave
+/// the digest of rules_names the same, 1000003 times one word and another
+/// more, stand in it by the bits of i.
+fn name_digest(i: usize) -> Bytes {
+    let block = |bit: usize| match i >> bit & 1 {
+        0 => b"aaaaazzz",
+        _ => b"aaabak87",
+    };
+    (0..7).flat_map(block).copied().collect()
+}
+
+/// 64 types and 64 children, whose names have one digest.
+fn names_digest() -> Case {
+    let mut m = line_of_types(ENTITY, 64);
+    for i in 0..64 {
+        m.types[i].name = name_digest(i);
+        m.set("", i);
+        m.children[i].name = name_digest(i);
+        m.children[i].singleton = true;
+    }
+    model_case(&m.encode(&Layout::plain()))
+}
+
+/// 64 keys of one type, of two segments each, whose aliases have one digest.
+fn aliases_digest() -> Case {
+    let mut m = line_of_types(ENTITY, 1);
+    let complex = m.add_type(COMPLEX, "K");
+    m.structural(0, "C", complex as u32);
+    m.structural(complex, "V", INT32);
+    for i in 0..64 {
+        m.key(0, &["C", "V"]);
+        m.keys[i].alias = name_digest(i);
+    }
+    model_case(&m.encode(&Layout::plain()))
+}
+
+/// A type that contains itself under 32 names of one digest and refers to
+/// itself under four; 128 bindings of eight segments, alike in the first five.
+fn bindings_digest() -> Case {
+    let mut m = line_of_types(ENTITY, 1);
+    for j in 0..36 {
+        let p = m.navigation(0, "", 0);
+        m.properties[p].name = name_digest(j);
+        m.properties[p].nullable = true;
+        m.properties[p].contains = j < 32;
+    }
+    m.set("S", 0);
+    m.children[0].singleton = true;
+    for b in 0..128 {
+        let numbers = [0, 0, 0, 0, 0, 0, b >> 2, 32 + (b & 3)];
+        let path = numbers.map(|j| Seg::Name(name_digest(j))).to_vec();
+        m.bindings.push(BindingDesc {
+            child: 0,
+            path,
+            target: 0,
+            target_path: Vec::new(),
+        });
+    }
+    model_case(&m.encode(&Layout::plain()))
+}
+
+/// 16 schemas with an alias each, 32 names of 128 bytes.
+fn schemas_alike() -> Case {
+    let mut m = ModelDesc::default();
+    for i in 0..16 {
+        m.schema("");
+        m.schemas[i].namespace = name_alike(i);
+        m.schemas[i].alias = name_alike(16 + i);
+    }
+    model_case(&m.encode(&Layout::plain()))
+}
+
+/// One type with 512 names of 81 to 127 bytes, all within 127 name bytes: 80
+/// to 111 times a, one b, and up to 15 times a again.
+fn long_names() -> Raw {
+    let mut m = line_of_types(ENTITY, 1);
+    let text = [vec![b'a'; 111], vec![b'b'], vec![b'a'; 15]].concat();
+    for i in 0..512 {
+        let p = m.structural(0, "", INT32);
+        m.properties[p].name = text[i % 32..112 + i / 32].to_vec();
+    }
+    m.encode(&Layout {
+        names: text,
+        ..Layout::plain()
+    })
+}
+
+/// That model, and an instance of nothing.
+fn names_unused() -> Case {
+    Case::Instance {
+        model: long_names().to_bytes(),
+        instance: instance_bytes(&InstanceDesc::default()),
+    }
+}
+
+/// That model, with a spare bit of its type set.
+fn spare_bit() -> Case {
+    let mut raw = long_names();
+    let spare = raw.tables[1][0].len() - 1;
+    raw.tables[1][0][spare] = 1;
+    model_case(&raw)
+}
+
 /// 256 nodes, 1,024 slots and 2,048 items.
 fn full() -> Case {
     let (m, instance) = full_instance();
@@ -257,6 +368,20 @@ fn runs_over_all() -> Case {
     for slot in &mut raw.tables[1] {
         slot[1..4].copy_from_slice(&[2, 0, 2048]);
     }
+    Case::Instance {
+        model: model_bytes(&m),
+        instance: raw.to_bytes(),
+    }
+}
+
+/// 1,024 slots whose runs go on past the last item, of which there is none.
+fn runs_past() -> Case {
+    let (m, instance) = full_instance();
+    let mut raw = instance.encode(&mut Random::new(1));
+    for slot in &mut raw.tables[1] {
+        slot[1..4].copy_from_slice(&[2, 0, 2048]);
+    }
+    raw.tables[2].clear();
     Case::Instance {
         model: model_bytes(&m),
         instance: raw.to_bytes(),
@@ -351,6 +476,24 @@ fn casts() -> Case {
     let nodes = (0..256).map(node).collect();
     let place = m.place(6, 0);
     walk_case(&m, &InstanceDesc { nodes }, place)
+}
+
+/// A node of the last type of a line of 64 that refers to itself 2,046 times,
+/// and a cast to the first after that.
+fn one_cast() -> Case {
+    let mut m = line_of_types(ENTITY, 64);
+    let refs = m.navigation(0, "Refs", 0);
+    m.properties[refs].collection = true;
+    let set = m.set("Set", 0);
+    m.children[set].singleton = true;
+    m.bind(set, &["Refs"], set);
+    m.bindings[0].path.push(Seg::Cast(0));
+    let node = NodeDesc {
+        type_number: 63,
+        slots: vec![slot(refs, 2, &[(63, 0); 2046])],
+    };
+    let place = m.place(6, 0);
+    walk_case(&m, &InstanceDesc { nodes: vec![node] }, place)
 }
 
 /// The first type derives from the last.
