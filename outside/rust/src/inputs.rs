@@ -41,7 +41,12 @@ pub const ROWS: [Row; 29] = [
     row("128 keys, aliases alike", 3.0, 6.0, aliases_alike),
     row("types and children, one digest", 3.0, 6.0, names_digest),
     row("64 keys, aliases of one digest", 3.0, 6.0, aliases_digest),
-    row("128 bindings, names of one digest", 3.0, 6.0, bindings_digest),
+    row(
+        "128 bindings, names of one digest",
+        3.0,
+        6.0,
+        bindings_digest,
+    ),
     row("16 schemas, names alike", 3.0, 6.0, schemas_alike),
     row("512 long names, no node", 3.0, 6.0, names_unused),
     row("refused 3: 512 long names", 3.0, 6.0, spare_bit),
@@ -521,6 +526,23 @@ fn last_binding() -> Case {
 #[cfg(test)]
 mod tests {
     use super::*;
+
+    /// The sum (FNV-1a) of the bytes of all images: a change of a generator that
+    /// moves an input is seen here.
+    const SUM: u64 = 10772326008924239123;
+
+    #[test]
+    fn inputs_stay() {
+        let mut sum: u64 = 0xcbf2_9ce4_8422_2325;
+        for row in &ROWS {
+            let case = (row.make)();
+            let (model, instance) = case.images();
+            for &byte in model.iter().chain(instance) {
+                sum = (sum ^ u64::from(byte)).wrapping_mul(0x0100_0000_01b3);
+            }
+        }
+        assert_eq!(sum, SUM);
+    }
 
     /// Each input is what its name says, and made the same each time.
     #[test]

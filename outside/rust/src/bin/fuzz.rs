@@ -7,6 +7,7 @@
 use std::ffi::c_int;
 use std::process::ExitCode;
 use std::sync::atomic::{AtomicUsize, Ordering};
+use std::sync::Barrier;
 
 use outside::fence::Flush;
 use outside::ffi::{self, Images};
@@ -96,7 +97,8 @@ impl Fuzz {
             CASE.store(number, Ordering::Relaxed);
             let (case, _) = source.next_case();
             let tried = if number % SWEPT == 0 {
-                self.sweep(&case)
+                let every = 2 * (stated(&case) + 9) <= self.most / SWEEP_SHARE;
+                self.sweep(&case, every)
             } else {
                 self.twice(&case)
             };
@@ -112,7 +114,7 @@ impl Fuzz {
         Ok(number)
     }
 
-    /// Nothing lent, and the largest images.
+    /// Nothing lent, and the largest images with buffers of every size.
     fn bounds(&mut self) -> Result<(), String> {
         self.calls += 3;
         if ffi::nothing_lent() != [1 << 32; 3] {
@@ -121,17 +123,18 @@ impl Fuzz {
         for more in [&[][..], &[0]] {
             let image = [&chain(64).to_bytes(), more].concat();
             let buffer = vec![0; 2048];
-            self.sweep(&Case::Model { image, buffer })?;
+            self.sweep(&Case::Model { image, buffer }, true)?;
             let (model, instance) = full_instance();
             let instance = instance.encode(&mut Random::new(1)).to_bytes();
-            self.sweep(&Case::Walk {
+            let walk = Case::Walk {
                 model: model.encode(&Layout::plain()).to_bytes(),
                 instance: [&instance, more].concat(),
                 place: model.place(6, 0),
                 path: 0,
                 node: 0,
                 buffer: vec![0; 4 * (1 + 1024 + 2048)],
-            })?;
+            };
+            self.sweep(&walk, true)?;
         }
         Ok(())
     }
@@ -149,11 +152,10 @@ impl Fuzz {
         Ok(())
     }
 
-    /// Buffers of every size from 0 to 8 more than the call asks for. Where that
-    /// would take too many calls, the first and the last sizes.
-    fn sweep(&mut self, case: &Case) -> Result<(), String> {
+    /// Buffers of every size from 0 to 8 more than the call asks for, or of the
+    /// first and the last of these sizes.
+    fn sweep(&mut self, case: &Case, every: bool) -> Result<(), String> {
         let stated = stated(case);
-        let every = 2 * (stated + 9) <= self.most / SWEEP_SHARE;
         self.swept += usize::from(every && stated > 0);
         let images = [Flush::End, Flush::Start].map(|flush| Images::of(case, flush));
         for size in 0..stated + 9 {
@@ -174,27 +176,25 @@ impl Fuzz {
         Ok(())
     }
 
-    /// Threads that call the same cases on the same images, each beginning at
-    /// another case.
+    /// Threads that call the same cases on the same images, all at once.
     fn threads(&mut self, cases: &[Case]) -> Result<(), String> {
         let shared: Vec<(&Case, Images, Outcome)> = cases
             .iter()
             .map(|case| (case, Images::of(case, Flush::End), case.reference().1))
             .collect();
         self.calls += THREADS * shared.len();
-        let one = |thread: usize| {
-            let (before, after) = shared.split_at(thread * shared.len() / THREADS);
-            after
-                .iter()
-                .chain(before)
-                .try_for_each(|(case, images, expected)| {
-                    agree(case, expected, images.call(case, case.buffer(), Flush::End))
-                })
+        let start = Barrier::new(THREADS);
+        let one = || {
+            let mut answered = Ok(());
+            for (case, images, expected) in &shared {
+                start.wait();
+                let found = images.call(case, case.buffer(), Flush::End);
+                answered = answered.and(agree(case, expected, found));
+            }
+            answered
         };
         std::thread::scope(|scope| {
-            let started: Vec<_> = (0..THREADS)
-                .map(|thread| scope.spawn(move || one(thread)))
-                .collect();
+            let started: Vec<_> = (0..THREADS).map(|_| scope.spawn(one)).collect();
             started
                 .into_iter()
                 .try_for_each(|thread| thread.join().expect("a thread that ends"))
