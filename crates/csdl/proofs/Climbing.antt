@@ -2,13 +2,14 @@
 use Prim.Native.Nat.{ℕ, zero, suc, _+_, _-_, _≤_, _<_}
 use mathlib.Core.Path.{_≡_, refl, sym, ap, _∙_}
 use mathlib.Core.Bool.{Bool, true, false, false≢true, cond, _||_}
-use mathlib.Core.Logic.{_↔_, _⊎_, inl, inr}
+use mathlib.Core.Logic.{_⊎_, inl, inr}
 use native.Mathlib.Nat.{add-suc, add-zero}
 use native.Mathlib.Omega.{arith}
 use lib.Dec.{eqb, eqb·suc-zero}
 use borrow.Author.Tests.{eqb-true, eq-eqb}
 use Rattle.csdl.specs.Search.{ifFound, orElse}
 use Rattle.csdl.specs.Climb.{climb, nearest, topmost}
+use Rattle.csdl.proofs.Logic.{or-right}
 use Rattle.csdl.proofs.Settle.{by-n}
 
 -- a stands above t: it is the next of t, or above the next. `next t` is 0 for none, else the number above t plus 1.
@@ -66,15 +67,11 @@ module _ (next : ℕ → ℕ) (a : ℕ) where
   climb-sound zero t h = absurd (climb-out t h)
   climb-sound (suc l) t h = step l t h (λ u e q. is-next (e ∙ ap suc q)) (λ u e r. of-next e (climb-sound l u r))
 
-  either : (b c : Bool) → c ≡ true → b || c ≡ true
-  either true c e = refl
-  either false c e = e
-
   hit : (l t : ℕ) → next t ≡ suc a → climb next (suc l) a t ≡ true
   hit l t e = climb-up l t a e ∙ rw (eq-eqb a a refl)
 
   more : (l t u : ℕ) → next t ≡ suc u → climb next l a u ≡ true → climb next (suc l) a t ≡ true
-  more l t u e r = climb-up l t u e ∙ either (eqb u a) (climb next l a u) r
+  more l t u e r = climb-up l t u e ∙ or-right (eqb u a) (climb next l a u) r
 
   -- What stands above is found with enough steps.
   enough : {t : ℕ} → Above next a t → (l : ℕ) × (climb next l a t ≡ true)
@@ -93,12 +90,9 @@ module _ (next : ℕ → ℕ) (a : ℕ) where
         go zero e = climb-none (suc k) t e ∙ sym (climb-none (suc (suc k)) t e)
         go (suc u) e = climb-up k t u e ∙ ap (λ r. eqb u a || r) (s u (omega (arith, closed t l))) ∙ sym (climb-up (suc k) t u e)
 
+    -- Where every number below n has none above it or one below n, what stands above is found with n steps.
     pub climb-found : (t : ℕ) → t < n → Above next a t → climb next n a t ≡ true
     climb-found t l r = let w = enough r in by-n n (λ k u. climb next k a u) climb-grows follows (w .0) t l (w .1)
-
-    -- Where every number below n has none above it or one below n, n steps decide.
-    pub climb-decides : (t : ℕ) → t < n → (climb next n a t ≡ true) ↔ Above next a t
-    climb-decides t l = (climb-sound n t, climb-found t l)
 
 -- A partial answer is there.
 abbrev there : ℕ → Bool

@@ -5,6 +5,7 @@ use mathlib.Core.List.{_∷_}
 use mathlib.Core.Bool.{Bool, true, false, false≢true, cond, _&&_, _||_}
 use mathlib.Core.Logic.{_⊎_, inl, inr, ⊎-elim}
 use native.Mathlib.Nat.{eq-or-lt-of-le}
+use native.Mathlib.Numerals.{add-one}
 use native.Mathlib.Omega.{arith}
 use lib.ListN.{length, getD}
 use lib.Dec.{eqb, ltb, leb}
@@ -198,14 +199,29 @@ sum-same f g i (suc n) e = ap₂ _+_ (e i (omega arith) (omega arith)) (sum-same
 pub count-same : (test other : ℕ → Bool) (i n : ℕ) → Among i n (λ k. test k ≡ other k) → countFrom test i n ≡ countFrom other i n
 count-same test other i n e = sum-same (λ k. oneIf (test k)) (λ k. oneIf (other k)) i n (λ k a b. ap oneIf (e k a b))
 
+-- One term more at the end.
+pub sum-suc : (f : ℕ → ℕ) (i n : ℕ) → sumFrom f i (suc n) ≡ sumFrom f i n + f (i + n)
+unfolding sumFrom
+sum-suc f i zero = let e : i + 0 ≡ i = omega arith in omega (arith, ap f e)
+sum-suc f i (suc n) =
+    let e : i + 1 + n ≡ i + suc n = omega arith in
+    let s : sumFrom f (i + 1) (suc n) ≡ sumFrom f (i + 1) n + f (i + suc n) = rw e at (sum-suc f (i + 1) n) in
+    omega arith
+
+pub count-suc : (test : ℕ → Bool) (n : ℕ) → countFrom test 0 (suc n) ≡ countFrom test 0 n + oneIf (test n)
+count-suc test n = let e : 0 + n ≡ n = omega arith in sum-suc (λ k. oneIf (test k)) 0 n ∙ ap (λ (x : ℕ). countFrom test 0 n + oneIf (test x)) e
+
+pub count-next : (test : ℕ → Bool) (n : ℕ) → countFrom test 0 (n + 1) ≡ countFrom test 0 n + oneIf (test n)
+count-next test n = rw (add-one n) (count-suc test n)
+
 -- f, but 0 at y.
-abbrev but : (ℕ → ℕ) → ℕ → ℕ → ℕ
+abbrev pub but : (ℕ → ℕ) → ℕ → ℕ → ℕ
 but f y k = cond (eqb k y) 0 (f k)
 
 but-skip : (f : ℕ → ℕ) (y i n : ℕ) → y < i → sumFrom (but f y) i n ≡ sumFrom f i n
 but-skip f y i n h = sum-same (but f y) f i n (λ k a b. rw (ne-eqb k y (λ e. omega arith)))
 
-but-one : (f : ℕ → ℕ) (y i n : ℕ) → i ≤ y → y < i + n → sumFrom (but f y) i n + f y ≡ sumFrom f i n
+pub but-one : (f : ℕ → ℕ) (y i n : ℕ) → i ≤ y → y < i + n → sumFrom (but f y) i n + f y ≡ sumFrom f i n
 unfolding sumFrom
 but-one f y i zero h l = absurd (omega arith)
 but-one f y i (suc n) h l = go (but-one f y (i + 1) n) (eqb i y) refl

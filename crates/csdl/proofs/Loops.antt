@@ -1,16 +1,16 @@
 -- Searches from number i on, as a loop goes through them. Assumes nothing.
-use Prim.Native.Nat.{ℕ, zero, suc, _+_, _-_, _≤_, _<_}
-use mathlib.Core.Path.{_≡_, refl, sym, _∙_}
-use mathlib.Core.Bool.{Bool, true, false, cond}
+use Prim.Native.Nat.{ℕ, suc, _+_, _-_, _≤_, _<_}
+use mathlib.Core.Path.{_≡_, _∙_}
+use mathlib.Core.Bool.{Bool, true, false}
 use native.Mathlib.Nat.{sub-zero}
 use native.Mathlib.Numerals.{add-one}
 use native.Mathlib.Omega.{arith}
 use Rattle.csdl.specs.Search.{firstFrom, anyFrom}
 
-one-more : (n i : ℕ) → i < n → n - i ≡ suc (n - (i + 1))
+pub one-more : (n i : ℕ) → i < n → n - i ≡ suc (n - (i + 1))
 one-more n i h = omega arith
 
-none-left : (n i : ℕ) → n ≤ i → n - i ≡ 0
+pub none-left : (n i : ℕ) → n ≤ i → n - i ≡ 0
 none-left n i h = omega arith
 
 -- The search over n numbers, of which the first i did not pass.

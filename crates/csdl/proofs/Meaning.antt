@@ -1,5 +1,5 @@
 -- What a name means at a type, where rules 4 and 11 are kept, and the topmost type above one, where rules 4 and 9 are.
-use Prim.Native.Nat.{ℕ, zero, suc, _-_, _≤_, _<_, zero-le}
+use Prim.Native.Nat.{ℕ, zero, suc, _≤_, _<_, zero-le}
 use mathlib.Core.Path.{_≡_, refl, sym, ap, _∙_}
 use mathlib.Core.List.{List}
 use mathlib.Core.Bool.{Bool, true, false, false≢true, _&&_}

@@ -1,13 +1,12 @@
 -- A null stands in a slot only where the slot is null or one of its items is.
 use Prim.Native.Nat.{ℕ, zero, suc, _+_, _≤_, _<_}
-use mathlib.Core.Path.{_≡_, refl, sym, ap, _∙_, subst}
-use mathlib.Core.List.{List, [], _∷_, List·Memᴰ, List·Memᴰ·cases-cons, List·Memᴰ·not-nil, List·Memᴰ·eq-of-singleton}
+use mathlib.Core.Path.{_≡_, refl, subst}
+use mathlib.Core.List.{[], _∷_, List·Memᴰ, List·Memᴰ·cases-cons, List·Memᴰ·not-nil}
 use mathlib.Core.Bool.{Bool, true, false, cond}
 use mathlib.Core.Logic.{inl, inr, ⊎-elim}
 use native.Mathlib.Omega.{arith}
 use borrow.Author.Tests.{eqb-true}
 use Rattle.csdl.specs.Search.{tab}
-use Rattle.csdl.specs.Model.{inRun}
 use Rattle.csdl.specs.Instance.{Instance}
 use Rattle.csdl.specs.Conforms.{isNull}
 use Rattle.csdl.specs.Walk.{Origin, itemAt, slotNull, contents}

@@ -105,9 +105,6 @@ module _ (m : Model) (k : ℕ) where
 
 -- A rule that is kept is kept at every record of each table.
 module _ (m : Model) (rule : Model → Record → Bool) (kept : Kept m rule) (k : ℕ) where
-  pub of-schema : k < m .schemas → rule m (OfSchema k) ≡ false
-  of-schema h = rw (← schema-at m k h) (kept k (omega arith))
-
   pub of-type : k < m .types → rule m (OfType k) ≡ false
   of-type h = rw (← type-at m k h) (kept (typesAt m + k) (omega arith))
 

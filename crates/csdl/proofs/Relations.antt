@@ -14,7 +14,7 @@ use Rattle.csdl.specs.Form.{rule4, run4cd}
 use Rattle.csdl.specs.Types.{type9}
 use Rattle.csdl.specs.Properties.{property10a, property10b, property10c, property10d, property10e, property10f, property10g, property10h, property10, rule10, required, requiredStep, type12}
 use Rattle.csdl.specs.Instance.{Instance}
-use Rattle.csdl.specs.Conforms.{nodesWith, slotsWith, countUnlike, slot21b, item21c, rule21, slotOfItem, nodeOfSlot, itemProperty, nodeOfItem, isNull, holdsItem, holdsNode, node26a, node26b}
+use Rattle.csdl.specs.Conforms.{nodesWith, slotsWith, countUnlike, slot21b, item21c, rule21, slotOfItem, nodeOfSlot, integralItem, nodeOfItem, isNull, holdsItem, holdsNode, node26a, node26b}
 use Rattle.csdl.specs.Relations.{Closed, Ancestor, Belongs, Requires, Reaches, Holds, HeldTwice, Within}
 use Rattle.csdl.specs.Relations.Ancestor.{its-base, of-base}
 use Rattle.csdl.specs.Relations.Belongs.{itself, inherited}
@@ -203,7 +203,7 @@ module _ (m : Model) (i : Instance) (kept : Fulfilled m i rule21) where
       let (s, ls, es) = item-slot k l in
       let (v, lv, ev) = slot-node s ls in
       let o = slot-of s k ls l es in
-      let c = and-cases (eqb (i .itemHandle k) w && not (isNull i k)) (integral m (itemProperty i k)) e in
+      let c = and-cases (eqb (i .itemHandle k) w && not (isNull i k)) (integralItem m i k) e in
       let d = and-cases (eqb (i .itemHandle k) w) (not (isNull i k)) (c .0) in (
         v,
         record {
@@ -232,8 +232,8 @@ module _ (m : Model) (i : Instance) (kept : Fulfilled m i rule21) where
         let k = h .item in
         let a = eq-eqb (i .itemHandle k) w (h .number) in
         let b : not (isNull i k) ≡ true = rw (h .not-null) in
-        let c : integral m (itemProperty i k) ≡ true = rw slot-is (h .is-integral) in
-        and-both (eqb (i .itemHandle k) w && not (isNull i k)) (integral m (itemProperty i k)) (and-both (eqb (i .itemHandle k) w) (not (isNull i k)) a b) c
+        let c : integralItem m i k ≡ true = rw slot-is (h .is-integral) in
+        and-both (eqb (i .itemHandle k) w && not (isNull i k)) (integralItem m i k) (and-both (eqb (i .itemHandle k) w) (not (isNull i k)) a b) c
 
     pub item-node : nodeOfItem i (h .item) ≡ suc v
     item-node = rw slot-is (node-of v (h .slot) (h .node-there) (h .slot-there) (h .of-node))
@@ -253,9 +253,6 @@ module _ (m : Model) (i : Instance) (kept : Fulfilled m i rule21) where
   holds-found v w h =
       any-of (λ k. holdsItem m i w k && eqb (nodeOfItem i k) (suc v)) 0 (i .items) (h .item) zero-le (omega (arith, h .item-there))
       (rw (holds-item v w h) (eq-eqb (nodeOfItem i (h .item)) (suc v) (item-node v w h)))
-
-  pub holds-decides : (v w : ℕ) → (holdsNode m i v w ≡ true) ↔ Holds m i v w
-  holds-decides v w = (holds-sound v w, holds-found v w)
 
   within-sound : {a w : ℕ} → Reach (λ x y. holdsNode m i x y) (i .nodes) a w → Within m i a w
   within-sound {a} (in-one {b} e) = directly (holds-sound a b e)

@@ -19,7 +19,6 @@ use Rattle.csdl.specs.Verdict.Stage.{whole, each}
 use Rattle.csdl.specs.Conforms.{instanceStages, instanceThen, instanceAnswer}
 use Rattle.csdl.specs.Walk.{walkResults, walkOpened, walkAnswer}
 use Rattle.csdl.specs.Accepted.{Unbroken, ModelKept, InstanceKept, ModelPasses, InstancePasses, WalkPasses, number, Passed, BrokenAt, AllPassed, Broken, Lowest, checkStages, laterStages, conformStages, walkStages, AfterModel}
-use Rattle.csdl.proofs.Examples.{image-a, image-b, eight, worked}
 use Rattle.csdl.proofs.Logic.{true-false, and-cases, first-found, first-none, none-first, first-is}
 
 -- An acceptance is no refusal; what an answer holds.
@@ -433,10 +432,3 @@ module _ (model image : List ℕ) (place n v : ℕ) (buffer : List ℕ) where
             (u .0 (sym walk-is ∙ e)),
         λ h. walk-is ∙ u .1 (⊎-elim (λ low. inl low) (λ k. inr (k .0, ⊎-elim (λ low. inl low) (λ x. inr (x .0, w .1 (inl (x .1)))) (k .1))) h),
       )
-
--- The tour model of document 01 breaks no rule; where Tour and Stop are each other's base, rule 9 is the lowest and Tour's place.
-pub tour-passes : ModelPasses image-a
-tour-passes = model-accepts image-a eight (4 ∷ []) .0 (worked .0) .0
-
-pub own-base-refused : Lowest (places (modelIn image-b)) (checkStages image-b eight) 9 1
-own-base-refused = model-refuses image-b eight 9 1 .0 (worked .2)

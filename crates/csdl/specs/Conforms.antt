@@ -92,13 +92,9 @@ slotOfItem i k = firstFrom (λ s. inRun (i .slotItems s) k) 0 (i .slots)
 unfoldable pub nodeOfSlot : Instance → ℕ → ℕ
 nodeOfSlot i s = firstFrom (λ v. inRun (i .nodeSlots v) s) 0 (i .nodes)
 
--- A number that no property has: rule 1 allows 512 properties, and the first is 0.
-abbrev pub noPropertyNumber : ℕ
-noPropertyNumber = 512
-
--- The property of the slot that has the item.
+-- The property of the slot that has the item: 0 for none, else its number plus 1.
 abbrev pub itemProperty : Instance → ℕ → ℕ
-itemProperty i k = ifFound noPropertyNumber (λ s. i .slotProperty s) (slotOfItem i k)
+itemProperty i k = ifFound 0 (λ s. suc (i .slotProperty s)) (slotOfItem i k)
 
 -- A null item is 255 with handle 0.
 unfoldable pub isNull : Instance → ℕ → Bool
@@ -115,15 +111,20 @@ item25of m i p k =
     cond (isNull i k) (not (m .collection p && m .nullable p))
     (cond (structured m (m .typeRef p)) (not (carriesNode m i (m .typeRef p) k)) (not (eqb (i .itemRef k) (m .typeRef p))))
 
+-- Of an item in no slot it asks nothing: rule 21 refuses that.
 unfoldable pub item25 : Model → Instance → ℕ → Bool
-item25 m i k = item25of m i (itemProperty i k) k
+item25 m i k = ifFound false (λ p. item25of m i p k) (itemProperty i k)
 
 abbrev pub rule25 : Model → Instance → InstanceRecord → Bool
 rule25 m i r = onItem (λ k. item25 m i k) r
 
--- Rule 26, of a node. Item k is integral and holds node w.
+-- Rule 26, of a node. Item k stands in a slot of an integral property.
+abbrev pub integralItem : Model → Instance → ℕ → Bool
+integralItem m i k = ifFound false (λ p. integral m p) (itemProperty i k)
+
+-- Item k is integral and holds node w.
 unfoldable pub holdsItem : Model → Instance → ℕ → ℕ → Bool
-holdsItem m i w k = eqb (i .itemHandle k) w && not (isNull i k) && integral m (itemProperty i k)
+holdsItem m i w k = eqb (i .itemHandle k) w && not (isNull i k) && integralItem m i k
 
 -- The node in whose slot item k stands: 0 for none, else its number plus 1.
 abbrev pub nodeOfItem : Instance → ℕ → ℕ

@@ -1,7 +1,7 @@
 -- Finding a property: kinds of type reference, ancestors, "at", the lookup of a name, the names of a type.
-use Prim.Native.Nat.{ℕ, zero, suc, _+_, _-_}
+use Prim.Native.Nat.{ℕ, suc}
 use mathlib.Core.List.{List}
-use mathlib.Core.Bool.{Bool, true, false, cond, not, _&&_, _||_}
+use mathlib.Core.Bool.{Bool, not, _&&_, _||_}
 use lib.Dec.{eqb, ltb, leb}
 use Rattle.packed.specs.Bytes.{same}
 use Rattle.csdl.specs.Search.{firstFrom, anyFrom}

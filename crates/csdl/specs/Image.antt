@@ -13,12 +13,12 @@ use Rattle.csdl.specs.Model.{Model, modelOf}
 abbrev pub header : List ℕ → ℕ → ℕ
 header image k = fieldOf image (16 * k) 16
 
--- Where part k begins, from 0: after byte `at`, the parts follow one after another; the header's number i, i + 1 and so on are their counts of records, and
--- the list has the bytes of a record of each.
-abbrev pub partFrom : List ℕ → ℕ → ℕ → List ℕ → ℕ → ℕ
-partFrom image at i sizes zero = at
-partFrom image at i [] (suc k) = at
-partFrom image at i (size ∷ sizes) (suc k) = partFrom image (at + size * header image i) (i + 1) sizes k
+-- Where part k begins, from 0: after byte `at`, the parts follow one after another; count i, count i + 1 and so on are their numbers of records,
+-- and the list has the bytes of a record of each.
+abbrev pub partFrom : (ℕ → ℕ) → ℕ → ℕ → List ℕ → ℕ → ℕ
+partFrom count at i sizes zero = at
+partFrom count at i [] (suc k) = at
+partFrom count at i (size ∷ sizes) (suc k) = partFrom count (at + size * count i) (i + 1) sizes k
 
 -- The bytes of a record of each table of a model: schema, type, property, key, constraint, child, binding, segment. The name bytes follow.
 abbrev pub modelSizes : List ℕ
@@ -26,7 +26,7 @@ modelSizes = 5 ∷ 6 ∷ 7 ∷ 6 ∷ 5 ∷ 4 ∷ 6 ∷ 3 ∷ []
 
 -- Where part k of a model begins; part 8 are the name bytes.
 abbrev pub modelPart : List ℕ → ℕ → ℕ
-modelPart image k = partFrom image 20 1 modelSizes k
+modelPart image k = partFrom (λ i. header image i) 20 1 modelSizes k
 
 abbrev pub typesFrom : List ℕ → ℕ
 typesFrom image = modelPart image 1
@@ -73,12 +73,15 @@ image1a image = ltb (length image) 20
 abbrev pub image1b : List ℕ → Bool
 image1b image = not (eqb (header image 0) 0x0402)
 
--- 1c: a count is beyond its limit: no schema or more than 16, more than 64 types, 512 properties, 128 keys, 64 constraints,
--- 64 children, 128 bindings, 1024 segments, 4096 name bytes.
+-- 1c: a count, by its number in the header, is beyond its limit: no schema or more than 16, more than 64 types, 512 properties, 128 keys,
+-- 64 constraints, 64 children, 128 bindings, 1024 segments, 4096 name bytes.
+abbrev pub beyond1c : (ℕ → ℕ) → Bool
+beyond1c count =
+    eqb (count 1) 0 || ltb 16 (count 1) || ltb 64 (count 2) || ltb 512 (count 3) || ltb 128 (count 4)
+    || ltb 64 (count 5) || ltb 64 (count 6) || ltb 128 (count 7) || ltb 1024 (count 8) || ltb 4096 (count 9)
+
 abbrev pub image1c : List ℕ → Bool
-image1c image =
-    eqb (header image 1) 0 || ltb 16 (header image 1) || ltb 64 (header image 2) || ltb 512 (header image 3) || ltb 128 (header image 4)
-    || ltb 64 (header image 5) || ltb 64 (header image 6) || ltb 128 (header image 7) || ltb 1024 (header image 8) || ltb 4096 (header image 9)
+image1c image = beyond1c (λ i. header image i)
 
 -- 1d: the length is not the sum of the header, the tables and the name bytes.
 abbrev pub image1d : List ℕ → Bool

@@ -116,7 +116,7 @@ instanceOf nodes slots items = instanceBy itemForm nodes slots items
 -- The header is four 16-bit numbers: version, then the counts of nodes, slots and items. The tables follow in that order.
 -- The bytes of a record of each, and where part k begins; part 3 is the end. What f makes of the three tables.
 abbrev pub instancePart : ItemForm → List ℕ → ℕ → ℕ
-instancePart form image k = partFrom image 8 1 (4 ∷ 5 ∷ form .bytes ∷ []) k
+instancePart form image k = partFrom (λ i. header image i) 8 1 (4 ∷ 5 ∷ form .bytes ∷ []) k
 
 abbrev pub ofTables : {A : Type 0} → ItemForm → (List ℕ → List ℕ → List ℕ → A) → List ℕ → A
 ofTables form f image =

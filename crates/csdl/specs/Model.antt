@@ -1,9 +1,8 @@
 -- A model as the rules see it: the number of records of each table, and each field of each record by its record's number.
 -- No rule sees bits or bytes; `modelOf` reads the fields from the nine parts of an image.
-use Prim.Native.Nat.{ℕ, _+_, _-_, _*_}
-use mathlib.Core.List.{List, []}
-use mathlib.Core.Bool.{Bool, true, false, cond, not, _&&_, _||_}
-use lib.ListN.{length}
+use Prim.Native.Nat.{ℕ, _+_, _-_}
+use mathlib.Core.List.{List}
+use mathlib.Core.Bool.{Bool, false, cond, not, _&&_}
 use lib.Dec.{eqb, ltb, leb}
 use Rattle.packed.specs.Bytes.{part}
 use Rattle.csdl.specs.Tables as tables
@@ -193,18 +192,6 @@ segmentsAt m = bindingsAt m + m .bindings
 abbrev pub places : Model → ℕ
 places m = segmentsAt m + m .segments
 
--- The record at a place.
-unfoldable pub recordAt : Model → ℕ → Record
-recordAt m place =
-    cond (ltb place (typesAt m)) (OfSchema place)
-    (cond (ltb place (propertiesAt m)) (OfType (place - typesAt m))
-    (cond (ltb place (keysAt m)) (OfProperty (place - propertiesAt m))
-    (cond (ltb place (constraintsAt m)) (OfKey (place - keysAt m))
-    (cond (ltb place (childrenAt m)) (OfConstraint (place - constraintsAt m))
-    (cond (ltb place (bindingsAt m)) (OfChild (place - childrenAt m))
-    (cond (ltb place (segmentsAt m)) (OfBinding (place - bindingsAt m))
-    (cond (ltb place (places m)) (OfSegment (place - segmentsAt m)) Nowhere)))))))
-
 -- The eight tables of records; the places of each, from the first up to the one after its last.
 pub data Table : Type 0 where
   schema-table type-table property-table key-table constraint-table child-table binding-table segment-table : Table
@@ -228,6 +215,21 @@ endPlace m constraint-table = childrenAt m
 endPlace m child-table = bindingsAt m
 endPlace m binding-table = segmentsAt m
 endPlace m segment-table = places m
+
+-- The record at a place, by the first place of each table and the place after the last; and in a model.
+abbrev pub recordFrom : (Table → ℕ) → ℕ → ℕ → Record
+recordFrom first end place =
+    cond (ltb place (first type-table)) (OfSchema place)
+    (cond (ltb place (first property-table)) (OfType (place - first type-table))
+    (cond (ltb place (first key-table)) (OfProperty (place - first property-table))
+    (cond (ltb place (first constraint-table)) (OfKey (place - first key-table))
+    (cond (ltb place (first child-table)) (OfConstraint (place - first constraint-table))
+    (cond (ltb place (first binding-table)) (OfChild (place - first child-table))
+    (cond (ltb place (first segment-table)) (OfBinding (place - first binding-table))
+    (cond (ltb place end) (OfSegment (place - first segment-table)) Nowhere)))))))
+
+unfoldable pub recordAt : Model → ℕ → Record
+recordAt m place = recordFrom (λ t. firstPlace m t) (places m) place
 
 -- Tables in image order; the two are one table.
 abbrev pub tableNo : Table → ℕ

@@ -1,11 +1,11 @@
 -- The name of a record, as a part of the image.
-use Prim.Native.Nat.{ℕ, _+_}
+use Prim.Native.Nat.{ℕ}
 use mathlib.Core.List.{List, [], _∷_}
-use mathlib.Core.Bool.{Bool, cond, true, false}
+use mathlib.Core.Bool.{cond}
 use Rattle.csdl.specs.Tables.{Name}
 use Rattle.csdl.specs.Model.{Model, text, places, recordAt}
 use Rattle.csdl.specs.Image.{modelIn, image1}
-use Rattle.csdl.specs.Verdict.{Answer, Stage, verdict, formStages}
+use Rattle.csdl.specs.Verdict.{Answer, verdict, formStages}
 use Rattle.csdl.specs.Verdict.Answer.{accepted, refused}
 use Rattle.csdl.specs.Verdict.Stage.{whole}
 use Rattle.csdl.specs.declared.Record.{Record}

@@ -23,7 +23,7 @@ property10a m p = not (structured m (m .owner p))
 abbrev pub property10b : Model → ℕ → Bool
 property10b m p = m .navigation p && not (entity m (m .typeRef p))
 
--- 10c (s. 7.1): a structural property of entity type.
+-- 10c (s. 7, 7.1): a structural property of entity type.
 abbrev pub property10c : Model → ℕ → Bool
 property10c m p = not (m .navigation p) && entity m (m .typeRef p)
 

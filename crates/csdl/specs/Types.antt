@@ -1,6 +1,6 @@
 -- Rules 8 and 9, of a type.
 use Prim.Native.Nat.{ℕ}
-use mathlib.Core.Bool.{Bool, true, false, not, _&&_, _||_}
+use mathlib.Core.Bool.{Bool, false, not, _&&_, _||_}
 use lib.Dec.{eqb, leb}
 use Rattle.csdl.specs.Search.{ifFound}
 use Rattle.csdl.specs.Model.{Model, on}

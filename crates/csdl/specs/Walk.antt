@@ -9,7 +9,7 @@ use Rattle.packed.specs.Bytes.{same}
 use Rattle.csdl.specs.Search.{firstFrom, tab, flat, all, ifFound}
 use Rattle.csdl.specs.Model.{Model, propertyText, present, recordAt}
 use Rattle.csdl.specs.Find.{structured, ancestorOrSelf}
-use Rattle.csdl.specs.Path.{Segment, segmentsOf, pathOf, startOf}
+use Rattle.csdl.specs.Path.{Segment, noReference, segmentsOf, pathOf, startOf}
 use Rattle.csdl.specs.declared.PathKind.{PathKind}
 use Rattle.csdl.specs.Path.Segment.{name, cast}
 use Rattle.csdl.specs.declared.PathKind.the-variants.{Partner, Key, Dependent, Principal, Binding, Target}
@@ -114,9 +114,9 @@ pathChosen m (OfBinding b) n = cond (eqb n 0) (ifPresent m Binding b) (cond (eqb
 pathChosen m (OfSegment g) n = NoPath
 pathChosen m Nowhere n = NoPath
 
--- The path's start type and segments.
+-- The path's start type and segments. Without a path there is no start type, and there are no segments.
 abbrev pub chosenStart : Model → Chosen → ℕ
-chosenStart m NoPath = 0
+chosenStart m NoPath = noReference
 chosenStart m (PathOf w r) = startOf m w r
 
 abbrev pub chosenSegments : Model → Chosen → List Segment

@@ -1,10 +1,10 @@
 -- A list of blocks of one length, written one after the other: each stands at its number times that length.
 use Prim.Native.Nat.{ℕ, zero, suc, _+_, _*_, _<_}
-use mathlib.Core.Path.{_≡_, refl, sym, ap, _∙_}
+use mathlib.Core.Path.{_≡_, sym}
 use mathlib.Core.List.{List, [], _∷_, _++_, append-assoc}
 use native.Mathlib.Nat.{mul-zero, mul-suc}
 use native.Mathlib.Omega.{arith}
-use lib.ListN.{length, take, drop, getD, length-append}
+use lib.ListN.{length, getD, length-append}
 use lib.Seq.{take-at, drop-append-add}
 use Rattle.packed.specs.Bytes.{part}
 use Rattle.csdl.specs.Search.{flat}

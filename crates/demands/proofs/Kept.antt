@@ -1,16 +1,15 @@
 -- The calls keep their promises: each clause from its theorem.
 use Prim.Native.Nat.{ℕ, _+_, _-_, _*_, _≤_, _<_}
-use mathlib.Core.Path.{_≡_, refl, sym, ap, _∙_, subst}
+use mathlib.Core.Path.{_≡_, refl, sym, ap, _∙_}
 use mathlib.Core.List.{List, [], _∷_, _++_}
 use mathlib.Core.Bool.{Bool, true, false}
-use mathlib.Core.Logic.{_↔_, _⊎_}
 use native.Mathlib.Omega.{arith}
 use lib.ListN.{length, drop, getD, length-append, length-drop}
 use lib.Seq.{drop-at}
 use lib.Dec.{eqb}
 use borrow.Author.Tests.{eq-eqb, ne-eqb, eqb-true, eqb-false, ltb-false, le-ltb}
 use Rattle.packed.specs.Bytes.{part}
-use Rattle.csdl.specs.Search.{tab, flat}
+use Rattle.csdl.specs.Search.{tab}
 use Rattle.csdl.specs.Model.{Model, present}
 use Rattle.csdl.specs.Image.{modelIn, header, buffer2}
 use Rattle.csdl.specs.Find.{ancestorOrSelf}
@@ -18,15 +17,15 @@ use Rattle.csdl.specs.Path.{Step, segmentsOf, pathOf, startOf, pathSteps, stepO
 use Rattle.csdl.specs.declared.PathKind.{PathKind}
 use Rattle.csdl.specs.Path.Step.{nothing}
 use Rattle.csdl.specs.Paths.{rule13}
-use Rattle.csdl.specs.Instance.{instanceIn}
-use Rattle.csdl.specs.Verdict.{Answer, stepCode, bytesOf, resolution, modelAnswer, modelBuffer}
+use Rattle.csdl.specs.Instance.{instanceIn, itemBytes}
+use Rattle.csdl.specs.Verdict.{stepCode, bytesOf, resolution, modelAnswer, modelBuffer}
 use Rattle.csdl.specs.Verdict.Answer.{accepted, refused}
 use Rattle.csdl.specs.Conforms.{instanceAnswer}
 use Rattle.csdl.specs.Walk.{Item, walked, start, walkPath, walk28, walk29, walkResults, walkOpened, walkAnswer, walkBuffer, resultBytes, bytesOfItem}
 use Rattle.csdl.specs.declared.Chosen.the-variants.{PathOf}
 use Rattle.csdl.specs.Walk.Item.{null}
 use Rattle.csdl.specs.Walk.Origin.{at-slot}
-use Rattle.csdl.specs.Accepted.{ModelPasses, InstancePasses, WalkPasses}
+use Rattle.csdl.specs.Accepted.{ModelPasses, WalkPasses}
 use Rattle.csdl.proofs.Logic.{run-in, in-run, tab-length, tab-at}
 use Rattle.csdl.proofs.Places.{of-segment}
 use Rattle.csdl.proofs.Verdicts.{model-accepts, model-refuses, instance-accepts, instance-refuses, walk-accepts, walk-refuses}
@@ -34,14 +33,15 @@ use Rattle.csdl.proofs.Bounds.{model-refusal, instance-refusal, walk-refusal, s
 use Rattle.csdl.proofs.Segments.{step-in-path, its-step, its-path, only-path}
 use Rattle.soundness.specs.Lists.{All}
 use Rattle.soundness.specs.Demand.{Held}
+use Rattle.soundness.specs.Premises.{Premises}
 use Rattle.soundness.proofs.PathRules.{held-chosen, resolved, within}
 use Rattle.soundness.proofs.Lists.{all-getD}
 use Rattle.soundness.proofs.Counts.{item-length, bytes-length}
 use Rattle.soundness.proofs.Plain.{Plain, results-plain, null-bytes}
-use Rattle.soundness.proofs.Demands.{no-own-ancestor, every-path, each-is-held, results-are, opened-are, not-refused, one-result, results-at-most, Premises, premises-of-walk}
+use Rattle.soundness.proofs.Demands.{no-own-ancestor, every-path, each-is-held, results-are, opened-are, not-refused, one-result, results-at-most, premises-of-walk}
 use Rattle.demands.specs.Word.{word, upper, lower, resultsIn, openedIn, answerIn, modelIsIn, instanceIsIn, walkIsIn}
 use Rattle.demands.specs.Demands.{ModelPromise, InstancePromise, PathPromise, WalkPromise}
-use Rattle.demands.proofs.Words.{model-word, instance-word, Few, few, walk-word}
+use Rattle.demands.proofs.Words.{model-word, instance-word, few, walk-word}
 use Rattle.demands.proofs.Blocks.{blocks-length, block-at}
 
 -- What a word says of an answer.
@@ -216,12 +216,12 @@ module _ (model image : List ℕ) (place n v : ℕ) (before : List ℕ) where
   unfolding walkBuffer
   result-bytes h = rw (walked-in h)
 
-  four-each : length (resultBytes model image place n v) ≡ 4 * length results
+  each-length : length (resultBytes model image place n v) ≡ itemBytes * length results
   unfolding resultBytes
-  four-each = bytes-length results
+  each-length = bytes-length results
 
-  rest-in : upper ww ≡ 0 → length (resultBytes model image place n v) ≡ 4 * resultsIn ww
-  rest-in h = omega (arith, four-each, says-two h .0)
+  rest-in : upper ww ≡ 0 → length (resultBytes model image place n v) ≡ itemBytes * resultsIn ww
+  rest-in h = omega (arith, each-length, says-two h .0)
 
   -- The walk along the path of a kind that record r holds.
   module _ (conforms : instanceAnswer model image ≡ accepted []) (kind : PathKind) (r : ℕ) (path : walkPath model place n ≡ PathOf kind r)
@@ -251,13 +251,13 @@ module _ (model image : List ℕ) (place n v : ℕ) (before : List ℕ) where
           says-opened = o;
           opened-most = rw o (d .at-most);
           results-most = rw s (d .results-fit);
-          four-bytes = four;
-          null-bytes = λ k l e. null-bytes (getD along k (null (at-slot 0))) (plain k) (sym (four k l) ∙ e);
+          item-bytes = item;
+          null-bytes = λ k l e. null-bytes (getD along k (null (at-slot 0))) (plain k) (sym (item k l) ∙ e);
         }
       where
-        four : (k : ℕ) → k < resultsIn ww → part (walkBuffer model image place n v before) (4 * k) 4 ≡ bytesOfItem (getD along k (null (at-slot 0)))
-        four k l =
-            rw (result-bytes h) (block-at (λ x. bytesOfItem x) 4 item-length (null (at-slot 0)) results _ k (omega (arith, says-two h .0)))
+        item : (k : ℕ) → k < resultsIn ww → part (walkBuffer model image place n v before) (itemBytes * k) itemBytes ≡ bytesOfItem (getD along k (null (at-slot 0)))
+        item k l =
+            rw (result-bytes h) (block-at (λ x. bytesOfItem x) itemBytes item-length (null (at-slot 0)) results _ k (omega (arith, says-two h .0)))
             ∙ ap (λ (l : List Item). bytesOfItem (getD l k (null (at-slot 0)))) along-are
 
         plain : (k : ℕ) → Plain (getD along k (null (at-slot 0)))
@@ -293,14 +293,14 @@ module _ (model image : List ℕ) (place n v : ℕ) (before : List ℕ) where
               (p .there, p .fitting),
               path-kept (p .conforms) (p .kind) (p .holder) (p .path) (p .there) (p .fitting) h,
             );
-        rest-stays = λ h. rw (result-bytes h) (drop-at (resultBytes model image place n v) _ (4 * resultsIn ww) (rest-in h) ∙ rw (rest-in h));
+        rest-stays = λ h. rw (result-bytes h) (drop-at (resultBytes model image place n v) _ (itemBytes * resultsIn ww) (rest-in h) ∙ rw (rest-in h));
       }
     where
       same : upper ww ≡ 0 → length (walkBuffer model image place n v before) ≡ length before
       same h =
           let p = premises-in h in
           let b = results-at-most model image (p .conforms) place n (p .kind) (p .holder) (p .path) v (p .there) (p .fitting) in
-          rw (result-bytes h, length-append, length-drop) (omega (arith, four-each, b, p .room))
+          rw (result-bytes h, length-append, length-drop) (omega (arith, each-length, b, p .room))
 
 -- What a contract says: the equations of the word and of the bytes, and with them the promise.
 pub model-owed : (image before : List ℕ) {x : ℕ} {after : List ℕ} → x ≡ word (modelAnswer image before) → after ≡ modelBuffer image before →

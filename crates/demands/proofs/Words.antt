@@ -1,21 +1,18 @@
 -- From the word of a call back to its answer: the numbers of each answer are small enough for their bits.
-use Prim.Native.Nat.{ℕ, _+_, _*_, _/_, _%_, _≤_, _<_}
-use mathlib.Core.Path.{_≡_, refl, sym, ap, _∙_}
+use Prim.Native.Nat.{ℕ, _+_, _*_, _≤_, _<_}
+use mathlib.Core.Path.{_≡_, refl, ap}
 use mathlib.Core.List.{List, [], _∷_}
-use mathlib.Core.Bool.{true, false}
 use native.Mathlib.Omega.{arith}
 use lib.ListN.{length}
-use lib.Dec.{eqb}
 use borrow.Author.Tests.{eq-eqb, ne-eqb}
 use Rattle.csdl.specs.Image.{modelIn}
-use Rattle.csdl.specs.Instance.{instanceIn}
 use Rattle.csdl.specs.Verdict.{Answer, modelAnswer}
 use Rattle.csdl.specs.Verdict.Answer.{accepted, refused}
 use Rattle.csdl.specs.Conforms.{instanceAnswer}
 use Rattle.csdl.specs.Walk.{walkResults, walkOpened, walkAnswer}
 use Rattle.csdl.proofs.Verdicts.{model-accepts, instance-values, walk-accepts}
 use Rattle.csdl.proofs.Bounds.{model-refusal, instance-refusal, walk-refusal, segments-most, instance-most}
-use Rattle.soundness.proofs.Demands.{Premises, premises-of-walk, results-at-most, opened-at-most}
+use Rattle.soundness.proofs.Demands.{premises-of-walk, results-at-most, opened-at-most}
 use Rattle.demands.specs.Word.{valuesWord, word, upper, lower, resultsIn, openedIn, answerIn, modelIsIn, instanceIsIn, walkIsIn}
 
 -- A small number has no upper half; a rule and a small place are the two halves.

@@ -11,12 +11,12 @@ use crate::print::right;
 use crate::print::text;
 use csdl::PathKind;
 use csdl::Record;
-use lookup::texts::property_text;
-use lookup::texts::type_text;
 use model_image::layout::Layout;
 use model_image::layout::names_of;
 use model_image::layout::properties_of;
 use model_image::layout::types_of;
+use model_image::texts::property_text;
+use model_image::texts::type_text;
 use path_kinds::in_image::holders_in;
 use path_kinds::in_image::path_in;
 

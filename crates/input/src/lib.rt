@@ -2,7 +2,7 @@
 // on standard error, with the reason. No contract can say which bytes are read; these say that the sizes count bytes of the arrays.
 ghost use mathlib.Core.Path.{_≡_};
 ghost use Prim.Native.Nat.{_≤_};
-ghost use lib.ListN.{length};
+ghost use lib.ListN.{length, take};
 
 // A byte more than the largest image of a model, so that one that is too long is seen to be.
 pub const IMAGE_SIZE: usize = 13349;
@@ -61,7 +61,7 @@ fn read_all(fd: i32, image: &mut [u8]) -> Input
 
 // Reads an image from a descriptor; `name` is what a failure names.
 pub fn read_image(fd: i32, name: &[u8], image: &mut [u8; IMAGE_SIZE]) -> Input
-    ensures { λ r. ⌜ r .size ≤ length (now (image .exit)) ⌝ }
+    ensures { λ r. ⌜ (r .size ≤ length (now (image .exit))) × (r .size ≡ length (take (r .size) (now (image .exit)))) ⌝ }
 {
     let r = read_all(fd, image);
     if !r.whole {
@@ -72,7 +72,7 @@ pub fn read_image(fd: i32, name: &[u8], image: &mut [u8; IMAGE_SIZE]) -> Input
 
 // Reads the image that a name names; - is standard input.
 fn read_named(name: &[u8], image: &mut [u8; IMAGE_SIZE]) -> Input
-    ensures { λ r. ⌜ r .size ≤ length (now (image .exit)) ⌝ }
+    ensures { λ r. ⌜ (r .size ≤ length (now (image .exit))) × (r .size ≡ length (take (r .size) (now (image .exit)))) ⌝ }
 {
     if packed::same_bytes(name, b"-") {
         return read_image(0, b"standard input", image);
@@ -92,8 +92,8 @@ fn read_named(name: &[u8], image: &mut [u8; IMAGE_SIZE]) -> Input
 
 // Reads the image that argument i names.
 pub fn read_argument(i: usize, name: &mut [u8], image: &mut [u8; IMAGE_SIZE]) -> Named
-    ensures { λ r. ⌜ r .size ≤ length (now (image .exit)) ⌝ }
-    ensures { λ r. ⌜ r .name ≤ length (now (name .exit)) ⌝ }
+    ensures { λ r. ⌜ (r .size ≤ length (now (image .exit))) × (r .size ≡ length (take (r .size) (now (image .exit)))) ⌝ }
+    ensures { λ r. ⌜ (r .name ≤ length (now (name .exit))) × (r .name ≡ length (take (r .name) (now (name .exit)))) ⌝ }
 {
     let n = os::arg(i, name);
     if os::errno() != 0 {

@@ -7,12 +7,11 @@ use native.Mathlib.Omega.{arith}
 use Rattle.csdl.specs.Search.{firstFrom, orElse, placeFound}
 use Rattle.csdl.specs.Model.{Model, modelOf}
 use Rattle.csdl.specs.Find.{ofKind, structured, ancestor, ancestorOrSelf, declares, own, find, isNameOf, complexStep, containStep, integral}
-use Rattle.csdl.specs.Instance.{Instance, instanceOf, instanceIn, nodeCount, slotCount, itemCount, instancePlaces}
-use Rattle.csdl.specs.Conforms.{node21a, slot21b, item21c, rule21, node22, rule22, slotsOf, node23, rule23, slot24, rule24, carriesNode, item25of, item25, rule25, holdsItem, holdsNode, node26, rule26, instanceBrokenAt, instanceStages}
+use Rattle.csdl.specs.Instance.{Instance, instanceOf, instanceIn, nodeCount, slotCount, itemCount, slotsAt, itemsAt, instancePlaces}
+use Rattle.csdl.specs.Conforms.{node21a, nodesWith, slotsWith, countUnlike, slot21b, item21c, rule21, node22, rule22, slotsOf, node23, rule23, slot24, rule24, carriesNode, item25of, item25, rule25, holdsItem, holdsNode, node26, rule26, instanceBrokenAt, instanceStages}
 use Rattle.csdl.specs.Verdict.{Answer, Stage, refuse, verdict}
 use Rattle.csdl.specs.Verdict.Answer.{refused}
 use Rattle.csdl.specs.Verdict.Stage.{each}
-use Rattle.csdl.proofs.Windows.{place-of-some}
 use Rattle.csdl.specs.Image.{modelIn}
 use Rattle.model_image.specs.Laid.{schemasIn, typesIn, propertiesIn, keysIn, constraintsIn, childrenIn, bindingsIn, segmentsIn, namesIn}
 use Rattle.instance_image.specs.Tables.{nodesIn, slotsIn, itemsIn}
@@ -20,7 +19,7 @@ use Rattle.instance_check.specs.Stages.{ruleNo, lowestInstancePlace}
 use Rattle.instance_values.proofs.Places.{first-record, nodes-only, slots-only, items-only}
 
 -- A rule that is broken; one that is kept.
-pub stage-hit : (n rule x : ℕ) (test : ℕ → Bool) (stages : List Stage) (o : Answer) → x ≡ firstFrom test 0 n → (x ≡ 0 → ⊥)
+stage-hit : (n rule x : ℕ) (test : ℕ → Bool) (stages : List Stage) (o : Answer) → x ≡ firstFrom test 0 n → (x ≡ 0 → ⊥)
     → refused rule (x - 1) ≡ verdict n (each rule test ∷ stages) o
 unfolding verdict
 stage-hit n rule x test stages o e h = rw (← e) (go x h)
@@ -29,17 +28,13 @@ stage-hit n rule x test stages o e h = rw (← e) (go x h)
     go zero q = absurd (q refl)
     go (suc y) q = let z : suc y - 1 ≡ y = omega arith in rw z
 
-pub stage-next : (n rule x : ℕ) (test : ℕ → Bool) (stages : List Stage) (o answer : Answer) → x ≡ firstFrom test 0 n → x ≡ 0
+stage-next : (n rule x : ℕ) (test : ℕ → Bool) (stages : List Stage) (o answer : Answer) → x ≡ firstFrom test 0 n → x ≡ 0
     → answer ≡ verdict n stages o
     → answer ≡ verdict n (each rule test ∷ stages) o
 unfolding verdict
 stage-next n rule x test stages o answer e z p = rw (← e, z) p
 
-pub stages-end : (n : ℕ) (o : Answer) → o ≡ verdict n [] o
-unfolding verdict
-stages-end n o = refl
-
--- The first of a node, a slot and an item.
+-- What was found first is the first of two.
 module _ (x f r : ℕ) (e : x ≡ f) where
   pub found-here : (x ≡ 0 → ⊥) → x ≡ orElse f r
   found-here n = rw (← e) (go x n)
@@ -51,30 +46,8 @@ module _ (x f r : ℕ) (e : x ≡ f) where
   pub found-later : (a : ℕ) → x ≡ 0 → a ≡ r → a ≡ orElse f r
   found-later a z p = rw (← e, z) p
 
--- The same in a table whose records start at place d.
-module _ (d x f : ℕ) (e : x ≡ f) where
-  pub place-here : (r : ℕ) → (x ≡ 0 → ⊥) → d + x ≡ orElse (placeFound d f) r
-  place-here r n = rw (← e) (go x n)
-    where
-      go : (y : ℕ) → (y ≡ 0 → ⊥) → d + y ≡ orElse (placeFound d y) r
-      go zero q = absurd (q refl)
-      go (suc y) q = over (d + suc y) (omega arith)
-        where
-          over : (z : ℕ) → (z ≡ 0 → ⊥) → z ≡ orElse z r
-          over zero p = absurd (p refl)
-          over (suc z) p = refl
-
-  pub place-none : (a r : ℕ) → x ≡ 0 → a ≡ r → a ≡ orElse (placeFound d f) r
-  place-none a r z p = rw (← e, z) p
-
-  pub place-last : (x ≡ 0 → ⊥) → d + x ≡ placeFound d f
-  place-last n = rw (← e) (place-of-some d x n)
-
-  pub place-gone : x ≡ 0 → 0 ≡ placeFound d f
-  place-gone z = rw (← e, z)
-
 -- Rule 21 by its tables.
-pub first-21 : (m : Model) (i : Instance)
+first-21 : (m : Model) (i : Instance)
     → firstFrom (instanceBrokenAt m i rule21) 0 (instancePlaces i)
     ≡ orElse (firstFrom (λ v. node21a m i v) 0 (i .nodes))
     (orElse (placeFound (i .nodes) (firstFrom (λ s. slot21b m i s) 0 (i .slots))) (placeFound (i .nodes + i .slots) (firstFrom (λ k. item21c i k) 0 (i .items))))
@@ -83,11 +56,13 @@ first-21 m i = first-record i (rule21 m i)
 
 -- ---- what was found at the tables that a rule reads, as what is found at all tables
 module _ (sc ty pr ke co ch bi sg nm no sl it : List ℕ) (x : ℕ) where
-  pub found-21 : x ≡ firstFrom (instanceBrokenAt (modelOf [] ty pr [] [] [] [] [] []) (instanceOf no sl it) rule21) 0 (instancePlaces (instanceOf no sl it))
+  pub found-21 : x
+      ≡ orElse (firstFrom (λ v. node21a (modelOf [] ty [] [] [] [] [] [] []) (instanceOf no sl []) v) 0 (nodeCount no))
+      (orElse (placeFound (nodeCount no) (firstFrom (λ s. slot21b (modelOf [] [] pr [] [] [] [] [] []) (instanceOf no sl it) s) 0 (slotCount sl)))
+      (placeFound (nodeCount no + slotCount sl) (firstFrom (λ k. item21c (instanceOf [] sl []) k) 0 (itemCount it))))
       → x ≡ firstFrom (instanceBrokenAt (modelOf sc ty pr ke co ch bi sg nm) (instanceOf no sl it) rule21) 0 (instancePlaces (instanceOf no sl it))
-  unfolding modelOf node21a slot21b
-  found-21 e =
-      e ∙ first-21 (modelOf [] ty pr [] [] [] [] [] []) (instanceOf no sl it) ∙ sym (first-21 (modelOf sc ty pr ke co ch bi sg nm) (instanceOf no sl it))
+  unfolding modelOf instanceOf node21a slot21b nodesWith countUnlike item21c slotsWith
+  found-21 e = e ∙ sym (first-21 (modelOf sc ty pr ke co ch bi sg nm) (instanceOf no sl it))
 
   pub found-22 : x ≡ firstFrom (λ v. node22 (modelOf [] ty [] [] [] [] [] [] []) (instanceOf no [] []) v) 0 (nodeCount no)
       → x ≡ firstFrom (instanceBrokenAt (modelOf sc ty pr ke co ch bi sg nm) (instanceOf no sl it) rule22) 0 (instancePlaces (instanceOf no sl it))
@@ -116,9 +91,12 @@ module _ (sc ty pr ke co ch bi sg nm no sl it : List ℕ) (x : ℕ) where
 
 -- The same over the two images.
 module _ (m i : List ℕ) (x : ℕ) where
-  pub in-21 : x ≡ firstFrom (instanceBrokenAt (modelOf [] (typesIn m) (propertiesIn m) [] [] [] [] [] []) (instanceOf (nodesIn i) (slotsIn i) (itemsIn i)) rule21) 0 (instancePlaces (instanceOf (nodesIn i) (slotsIn i) (itemsIn i)))
+  pub in-21 : x
+      ≡ orElse (firstFrom (λ v. node21a (modelOf [] (typesIn m) [] [] [] [] [] [] []) (instanceOf (nodesIn i) (slotsIn i) []) v) 0 (nodeCount (nodesIn i)))
+      (orElse (placeFound (slotsAt (instanceIn i)) (firstFrom (λ s. slot21b (modelOf [] [] (propertiesIn m) [] [] [] [] [] []) (instanceOf (nodesIn i) (slotsIn i) (itemsIn i)) s) 0 (slotCount (slotsIn i))))
+      (placeFound (itemsAt (instanceIn i)) (firstFrom (λ k. item21c (instanceOf [] (slotsIn i) []) k) 0 (itemCount (itemsIn i)))))
       → x ≡ lowestInstancePlace (modelIn m) (instanceIn i) rule21
-  unfolding modelIn instanceIn lowestInstancePlace
+  unfolding modelIn instanceIn instanceOf lowestInstancePlace
   in-21 e = found-21 (schemasIn m) (typesIn m) (propertiesIn m) (keysIn m) (constraintsIn m) (childrenIn m) (bindingsIn m) (segmentsIn m) (namesIn m) (nodesIn i) (slotsIn i) (itemsIn i) x e
 
   pub in-22 : x ≡ firstFrom (λ v. node22 (modelOf [] (typesIn m) [] [] [] [] [] [] []) (instanceOf (nodesIn i) [] []) v) 0 (nodeCount (nodesIn i)) → x ≡ lowestInstancePlace (modelIn m) (instanceIn i) rule22
@@ -129,12 +107,12 @@ module _ (m i : List ℕ) (x : ℕ) where
   unfolding modelIn instanceIn lowestInstancePlace
   in-23 e = found-23 (schemasIn m) (typesIn m) (propertiesIn m) (keysIn m) (constraintsIn m) (childrenIn m) (bindingsIn m) (segmentsIn m) (namesIn m) (nodesIn i) (slotsIn i) (itemsIn i) x e
 
-  pub in-24 : x ≡ placeFound (nodeCount (nodesIn i)) (firstFrom (λ s. slot24 (modelOf [] [] (propertiesIn m) [] [] [] [] [] []) (instanceOf [] (slotsIn i) []) s) 0 (slotCount (slotsIn i))) → x ≡ lowestInstancePlace (modelIn m) (instanceIn i) rule24
-  unfolding modelIn instanceIn lowestInstancePlace
+  pub in-24 : x ≡ placeFound (slotsAt (instanceIn i)) (firstFrom (λ s. slot24 (modelOf [] [] (propertiesIn m) [] [] [] [] [] []) (instanceOf [] (slotsIn i) []) s) 0 (slotCount (slotsIn i))) → x ≡ lowestInstancePlace (modelIn m) (instanceIn i) rule24
+  unfolding modelIn instanceIn instanceOf lowestInstancePlace
   in-24 e = found-24 (schemasIn m) (typesIn m) (propertiesIn m) (keysIn m) (constraintsIn m) (childrenIn m) (bindingsIn m) (segmentsIn m) (namesIn m) (nodesIn i) (slotsIn i) (itemsIn i) x e
 
-  pub in-25 : x ≡ placeFound (nodeCount (nodesIn i) + slotCount (slotsIn i)) (firstFrom (λ k. item25 (modelOf [] (typesIn m) (propertiesIn m) [] [] [] [] [] []) (instanceOf (nodesIn i) (slotsIn i) (itemsIn i)) k) 0 (itemCount (itemsIn i))) → x ≡ lowestInstancePlace (modelIn m) (instanceIn i) rule25
-  unfolding modelIn instanceIn lowestInstancePlace
+  pub in-25 : x ≡ placeFound (itemsAt (instanceIn i)) (firstFrom (λ k. item25 (modelOf [] (typesIn m) (propertiesIn m) [] [] [] [] [] []) (instanceOf (nodesIn i) (slotsIn i) (itemsIn i)) k) 0 (itemCount (itemsIn i))) → x ≡ lowestInstancePlace (modelIn m) (instanceIn i) rule25
+  unfolding modelIn instanceIn instanceOf lowestInstancePlace
   in-25 e = found-25 (schemasIn m) (typesIn m) (propertiesIn m) (keysIn m) (constraintsIn m) (childrenIn m) (bindingsIn m) (segmentsIn m) (namesIn m) (nodesIn i) (slotsIn i) (itemsIn i) x e
 
   pub in-26 : x ≡ firstFrom (λ w. node26 (modelOf [] (typesIn m) (propertiesIn m) [] [] [] [] [] []) (instanceOf (nodesIn i) (slotsIn i) (itemsIn i)) w) 0 (nodeCount (nodesIn i)) → x ≡ lowestInstancePlace (modelIn m) (instanceIn i) rule26

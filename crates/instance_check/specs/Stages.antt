@@ -1,16 +1,16 @@
 -- Rules 21 to 26 by number, and what is known of the two images when they are asked.
 use Prim.Native.Nat.{ℕ}
-use mathlib.Core.Path.{_≡_}
-use mathlib.Core.Bool.{Bool, false, cond}
+use mathlib.Core.Bool.{Bool, cond}
 use mathlib.Core.List.{List, []}
 use lib.Dec.{eqb}
 use Rattle.csdl.specs.Search.{firstFrom}
 use Rattle.csdl.specs.Model.{Model}
-use Rattle.csdl.specs.Instance.{Instance, instanceOf, instancePlaces, image20}
+use Rattle.csdl.specs.Instance.{Instance, instanceOf, instancePlaces}
 use Rattle.csdl.specs.Conforms.{instanceBrokenAt, slotOfItem, rule21, rule22, rule23, rule24, rule25, rule26}
 use Rattle.csdl.specs.declared.InstanceRecord.{InstanceRecord}
 use Rattle.model_image.specs.declared.layout.Layout.{Layout}
 use Rattle.model_image.specs.Laid.{Laid}
+use Rattle.instance_image.specs.Sized.{Sized}
 use Rattle.instance_image.specs.Tables.{slotsIn}
 use Rattle.instance_runs.specs.Tables.{Tabulates}
 
@@ -26,8 +26,8 @@ lowestInstancePlace m i rule = firstFrom (instanceBrokenAt m i rule) 0 (instance
 -- The layout is that of the model, which keeps rule 1; the instance keeps rule 20.
 pub record Formed (model : List ℕ) (at : Layout) (instance : List ℕ) : Type 0 where
   pub laid : Laid model at
-  pub instance20 : image20 instance ≡ false
+  pub sized : Sized instance
 
 -- The array has for each item of the instance the slot whose run has it.
-abbrev pub Owners : List ℕ → List ℕ → Type 0
-Owners instance owners = Tabulates (λ k. slotOfItem (instanceOf [] (slotsIn instance) []) k) 2048 owners
+abbrev pub ItemSlots : List ℕ → List ℕ → Type 0
+ItemSlots instance array = Tabulates (λ k. slotOfItem (instanceOf [] (slotsIn instance) []) k) 2048 array

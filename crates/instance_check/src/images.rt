@@ -13,7 +13,7 @@ use csdl::InstanceAnswer;
 use instance_image::image::bad_instance;
 
 // Rules 20 to 26, of an instance of a model that keeps rule 1.
-pub fn check_20_to_26(model: &[u8], instance: &[u8]) -> InstanceAnswer
+pub(crate) fn check_20_to_26(model: &[u8], instance: &[u8]) -> InstanceAnswer
     requires { ⌜ images.image1 (now model) ≡ false ⌝ }
     ensures { λ r. ⌜ instanceMeans r ≡ verdict 0 (whole 20 (image20 (now (instance .entry))) ∷ []) (verdict (instancePlaces (instanceIn (now (instance .entry)))) (instanceStages (images.modelIn (now (model .entry))) (instanceIn (now (instance .entry)))) (accepted [])) ⌝ }
 {

@@ -7,11 +7,11 @@ use native.Mathlib.Omega.{arith}
 use lib.Dec.{eqb, ltb, eqb·zero-suc, eqb·suc-suc}
 use lib.ListN.{length, getD, List·getD-eq-default}
 use borrow.Author.Tests.{ltb-true, ltb-false, ne-eqb, le-ltb, lt-ltb}
-use Rattle.csdl.specs.Search.{anyFrom, firstFrom, countFrom, ifFound}
+use Rattle.csdl.specs.Search.{firstFrom, countFrom, ifFound}
 use Rattle.csdl.specs.Model.{Model, modelOf, inRun}
 use Rattle.csdl.specs.Find.{integral}
 use Rattle.csdl.specs.Instance.{Instance, instanceOf}
-use Rattle.csdl.specs.Conforms.{isNull, itemProperty, nodeOfItem, nodeOfSlot, holdsItem, holdsNode, node26}
+use Rattle.csdl.specs.Conforms.{isNull, itemProperty, integralItem, nodeOfItem, nodeOfSlot, holdsItem, holdsNode, node26}
 use Rattle.instance_runs.specs.Tables.{Tabulates, toTwo}
 use Rattle.csdl.proofs.Logic.{any-same, count-same, first-same, first-le}
 use Rattle.csdl.proofs.Reaching.{reaches-same}
@@ -35,7 +35,7 @@ module _ (m : Model) (i : Instance) where
   holds-item : (w k : ℕ) → w < i .nodes → holdsItem m i w k ≡ eqb (heldBy m i k) (suc w)
   unfolding holdsItem heldBy heldIf
   holds-item w k l =
-      held-same (i .itemHandle k) w (ltb (i .itemHandle k) (i .nodes)) (not (isNull i k)) (integral m (itemProperty i k))
+      held-same (i .itemHandle k) w (ltb (i .itemHandle k) (i .nodes)) (not (isNull i k)) (integralItem m i k)
       (λ e. let h : i .nodes ≤ i .itemHandle k = ltb-false (i .itemHandle k) (i .nodes) e in ne-eqb (i .itemHandle k) w (λ q. apart h q))
     where
       apart : i .nodes ≤ i .itemHandle k → i .itemHandle k ≡ w → ⊥
@@ -124,27 +124,27 @@ found-same f g n zero h e = refl
 found-same f g n (suc s) h e = e s (omega arith)
 
 -- The node of an item, by the array of slots and the array of nodes.
-module _ (nodes slots owners holders : List ℕ) (few : length slots ≤ 5120)
-    (o : Tabulates (λ k. slotOfItem (instanceOf [] slots []) k) 2048 owners) (h : Tabulates (λ s. nodeOfSlot (instanceOf nodes [] []) s) 1024 holders) where
-  pub node-in-same : (k : ℕ) → k < 2048 → nodeIn owners holders k ≡ nodeOfItem (instanceOf nodes slots []) k
+module _ (nodes slots item-slots slot-nodes : List ℕ) (few : length slots ≤ 5120)
+    (o : Tabulates (λ k. slotOfItem (instanceOf [] slots []) k) 2048 item-slots) (h : Tabulates (λ s. nodeOfSlot (instanceOf nodes [] []) s) 1024 slot-nodes) where
+  pub node-in-same : (k : ℕ) → k < 2048 → nodeIn item-slots slot-nodes k ≡ nodeOfItem (instanceOf nodes slots []) k
   unfolding nodeIn instanceOf slotOfItem nodeOfSlot
   node-in-same k l =
       rw (o .at k l)
-      (found-same (λ s. getD holders s 0) (λ s. nodeOfSlot (instanceOf nodes [] []) s) 1024 (slotOfItem (instanceOf [] slots []) k) (slot-below slots k few) (h .at))
+      (found-same (λ s. getD slot-nodes s 0) (λ s. nodeOfSlot (instanceOf nodes [] []) s) 1024 (slotOfItem (instanceOf [] slots []) k) (slot-below slots k few) (h .at))
 
-  pub node-in-le : (k : ℕ) → nodeIn owners holders k ≤ nodeCount nodes
+  pub node-in-le : (k : ℕ) → nodeIn item-slots slot-nodes k ≤ nodeCount nodes
   unfolding nodeIn instanceOf
-  node-in-le k = go (getD owners k 0)
+  node-in-le k = go (getD item-slots k 0)
     where
-      go : (x : ℕ) → ifFound 0 (λ s. getD holders s 0) x ≤ nodeCount nodes
+      go : (x : ℕ) → ifFound 0 (λ s. getD slot-nodes s 0) x ≤ nodeCount nodes
       go zero = zero-le
       go (suc s) =
-          all-le (λ s. nodeOfSlot (instanceOf nodes [] []) s) 1024 (nodeCount nodes) holders h (λ s. node-of-slot-le (instanceOf nodes [] []) s) s
+          all-le (λ s. nodeOfSlot (instanceOf nodes [] []) s) 1024 (nodeCount nodes) slot-nodes h (λ s. node-of-slot-le (instanceOf nodes [] []) s) s
 
 -- The node that an item holds, by its property and by the tables that each test reads.
-pub held-same-tables : (types properties nodes slots items : List ℕ) (inside : Bool) (p k r : ℕ) → r ≡ heldIf (instanceOf nodes [] items) inside k
-    → inside ≡ integral (modelOf [] types properties [] [] [] [] [] []) p
-    → p ≡ itemProperty (instanceOf [] slots []) k
+pub held-same-tables : (types properties nodes slots items : List ℕ) (inside : Bool) (property k r : ℕ) → r ≡ heldIf (instanceOf nodes [] items) inside k
+    → inside ≡ ifFound false (λ p. integral (modelOf [] types properties [] [] [] [] [] []) p) property
+    → property ≡ itemProperty (instanceOf [] slots []) k
     → r ≡ heldBy (modelOf [] types properties [] [] [] [] [] []) (instanceOf nodes slots items) k
 unfolding heldBy heldIf instanceOf isNull slotOfItem
-held-same-tables types properties nodes slots items inside p k r e f g = e ∙ rw (f, g)
+held-same-tables types properties nodes slots items inside property k r e f g = e ∙ rw (f, g)

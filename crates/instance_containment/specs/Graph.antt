@@ -9,9 +9,8 @@ use Rattle.csdl.specs.Search.{anyFrom, countFrom, oneIf, ifFound}
 use Rattle.csdl.specs.Climb.{reaches}
 use Rattle.csdl.specs.declared.Run.{Run}
 use Rattle.csdl.specs.Model.{Model}
-use Rattle.csdl.specs.Find.{integral}
 use Rattle.csdl.specs.Instance.{Instance}
-use Rattle.csdl.specs.Conforms.{isNull, itemProperty}
+use Rattle.csdl.specs.Conforms.{isNull, integralItem}
 
 -- The node that item k holds, if it is an integral item.
 unfoldable pub heldIf : Instance → Bool → ℕ → ℕ
@@ -19,11 +18,11 @@ heldIf i inside k = cond (ltb (i .itemHandle k) (i .nodes) && not (isNull i k) &
 
 -- The node that item k holds through an integral property.
 unfoldable pub heldBy : Model → Instance → ℕ → ℕ
-heldBy m i k = heldIf i (integral m (itemProperty i k)) k
+heldBy m i k = heldIf i (integralItem m i k) k
 
 -- The node in whose slot item k stands, by the slot of each item and the node of each slot.
 unfoldable pub nodeIn : List ℕ → List ℕ → ℕ → ℕ
-nodeIn slots nodes k = ifFound 0 (λ s. getD nodes s 0) (getD slots k 0)
+nodeIn item-slots slot-nodes k = ifFound 0 (λ s. getD slot-nodes s 0) (getD item-slots k 0)
 
 -- What an array has for each number.
 abbrev pub entry : List ℕ → ℕ → ℕ

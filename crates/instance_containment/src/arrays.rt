@@ -4,7 +4,7 @@ ghost use lib.ListN.{getD};
 ghost use Rattle.instance_containment.specs.Graph as graph;
 
 // Entry k of an array, or 0 past the end.
-pub fn read_at(array: &[u16], k: u16) -> u16
+pub(crate) fn read_at(array: &[u16], k: u16) -> u16
     ensures { λ r. ⌜ r ≡ getD (now (array .entry)) k 0 ⌝ }
 {
     let at = k as usize;
@@ -15,12 +15,12 @@ pub fn read_at(array: &[u16], k: u16) -> u16
 }
 
 // The node in whose slot item k stands.
-pub fn node_of(slots: &[u16], nodes: &[u16], k: u16) -> u16
-    ensures { λ r. ⌜ r ≡ graph.nodeIn (now (slots .entry)) (now (nodes .entry)) k ⌝ }
+pub(crate) fn node_of(item_slots: &[u16], slot_nodes: &[u16], k: u16) -> u16
+    ensures { λ r. ⌜ r ≡ graph.nodeIn (now («item_slots» .entry)) (now («slot_nodes» .entry)) k ⌝ }
 {
-    let slot = read_at(slots, k);
+    let slot = read_at(item_slots, k);
     if slot == 0 {
         return 0;
     }
-    read_at(nodes, slot - 1)
+    read_at(slot_nodes, slot - 1)
 }

@@ -3,6 +3,7 @@ mod arrays;
 mod rows;
 
 ghost use mathlib.Core.Path.{_≡_};
+ghost use mathlib.Core.Bool.{false};
 ghost use mathlib.Core.List.{[]};
 ghost use Prim.Native.Nat.{ℕ, _+_, _≤_, _<_};
 ghost use lib.Dec.{ltb};
@@ -54,11 +55,15 @@ fn integrals_of(types: &[u8], properties: &[u8]) -> [u64; 8]
     set
 }
 
-// Whether the items of p are integral.
-fn is_integral(types: &[u8], properties: &[u8], integrals: &[u64], p: u16) -> bool
+// Whether the items of a property, 0 for none, else its number plus 1, are integral.
+fn is_integral(types: &[u8], properties: &[u8], integrals: &[u64], property: u16) -> bool
     requires { ⌜ FewTypes (now types) × FewProperties (now properties) × Integrals (now types) (now properties) (now integrals) ⌝ }
-    ensures { λ r. ⌜ r ≡ find.integral (modelOf [] (now (types .entry)) (now (properties .entry)) [] [] [] [] [] []) p ⌝ }
+    ensures { λ r. ⌜ r ≡ search.ifFound false (λ p. find.integral (modelOf [] (now (types .entry)) (now (properties .entry)) [] [] [] [] [] []) p) property ⌝ }
 {
+    if property == 0 {
+        return false;
+    }
+    let p = property - 1;
     if p < property_count(properties) {
         return in_wide(integrals, 0, p);
     }
@@ -83,16 +88,16 @@ fn held_by(nodes: &[u8], items: &[u8], inside: bool, k: u16) -> u16
     handle as u16 + 1
 }
 
-// For each item the node that it holds through an integral property. `owners` has for each item the slot whose run has it.
+// For each item the node that it holds through an integral property. `item_slots` has for each item the slot whose run has it.
 fn held_nodes(
     types: &[u8],
     properties: &[u8],
     nodes: &[u8],
     slots: &[u8],
     items: &[u8],
-    owners: &[u16],
+    item_slots: &[u16],
 ) -> [u16; 2048]
-    requires { ⌜ FewTypes (now types) × FewProperties (now properties) × FewNodes (now nodes) × FewItems (now items) × Tabulates (λ k. slotOfItem (instanceOf [] (now slots) []) k) 2048 (now owners) ⌝ }
+    requires { ⌜ FewTypes (now types) × FewProperties (now properties) × FewNodes (now nodes) × FewItems (now items) × Tabulates (λ k. slotOfItem (instanceOf [] (now slots) []) k) 2048 (now «item_slots») ⌝ }
     ensures { λ r. ⌜ ((k : ℕ) → k < itemCount (now (items .entry)) → getD r k 0 ≡ graph.heldBy (modelOf [] (now (types .entry)) (now (properties .entry)) [] [] [] [] [] []) (instanceOf (now (nodes .entry)) (now (slots .entry)) (now (items .entry))) k) ⌝ }
 {
     let integrals = integrals_of(types, properties);
@@ -100,8 +105,8 @@ fn held_nodes(
     let n = item_count(items);
     let mut k: u16 = 0;
     while k < n {
-        let p = item_property(slots, owners, k);
-        let inside = is_integral(types, properties, &integrals, p);
+        let property = item_property(slots, item_slots, k);
+        let inside = is_integral(types, properties, &integrals, property);
         array[k as usize] = held_by(nodes, items, inside, k);
         k += 1;
     }
@@ -123,8 +128,8 @@ fn held_times(to: &[u16], c: u16) -> [u16; 256]
 }
 
 // For each node the node that holds it, by the first of the c items that does.
-fn holders_of(slots: &[u16], nodes: &[u16], to: &[u16], c: u16) -> [u16; 256]
-    ensures { λ r. ⌜ Tabulates (λ w. graph.holderFrom (graph.nodeIn (now (slots .entry)) (now (nodes .entry))) (graph.entry (now (to .entry))) w 0 c) 256 r ⌝ }
+fn holders_of(item_slots: &[u16], slot_nodes: &[u16], to: &[u16], c: u16) -> [u16; 256]
+    ensures { λ r. ⌜ Tabulates (λ w. graph.holderFrom (graph.nodeIn (now («item_slots» .entry)) (now («slot_nodes» .entry))) (graph.entry (now (to .entry))) w 0 c) 256 r ⌝ }
 {
     let mut array = [0u16; 256];
     let mut k = c;
@@ -135,7 +140,7 @@ fn holders_of(slots: &[u16], nodes: &[u16], to: &[u16], c: u16) -> [u16; 256]
             &mut array,
             less_one(w),
             one_if(w != 0),
-            node_of(slots, nodes, k),
+            node_of(item_slots, slot_nodes, k),
         );
     }
     array
@@ -192,31 +197,37 @@ fn first_by_climbs(holders: &[u16], n: u16) -> u16
 
 // The first of n nodes that breaks rule 26, by what the c items hold. Where no node is held twice, the climb by the holders shows what is
 // within itself.
-fn first_within(slots: &[u16], nodes: &[u16], to: &[u16], c: u16, n: u16) -> u16
-    requires { ⌜ (n ≤ 256) × ((k : ℕ) → graph.nodeIn (now slots) (now nodes) k ≤ n) ⌝ }
-    ensures { λ r. ⌜ (r ≡ search.firstFrom (λ w. graph.node26In (graph.nodeIn (now (slots .entry)) (now (nodes .entry))) (graph.entry (now (to .entry))) c n w) 0 n) × (r ≤ 256) ⌝ }
+fn first_within(item_slots: &[u16], slot_nodes: &[u16], to: &[u16], c: u16, n: u16) -> u16
+    requires { ⌜ (n ≤ 256) × ((k : ℕ) → graph.nodeIn (now «item_slots») (now «slot_nodes») k ≤ n) ⌝ }
+    ensures { λ r. ⌜ (r ≡ search.firstFrom (λ w. graph.node26In (graph.nodeIn (now («item_slots» .entry)) (now («slot_nodes» .entry))) (graph.entry (now (to .entry))) c n w) 0 n) × (r ≤ 256) ⌝ }
 {
     let times = held_times(to, c);
     if any_twice(&times, n) {
-        return first_by_rows(slots, nodes, to, &times, c, n);
+        return first_by_rows(item_slots, slot_nodes, to, &times, c, n);
     }
-    let holders = holders_of(slots, nodes, to, c);
+    let holders = holders_of(item_slots, slot_nodes, to, c);
     first_by_climbs(&holders, n)
 }
 
-// The first node that breaks rule 26: 0 for none, else its number plus 1. `owners` has for each item the slot whose run has it.
+// The first node that breaks rule 26: 0 for none, else its number plus 1. `item_slots` has for each item the slot whose run has it.
 pub fn first_26(
     types: &[u8],
     properties: &[u8],
     nodes: &[u8],
     slots: &[u8],
     items: &[u8],
-    owners: &[u16],
+    item_slots: &[u16],
 ) -> u16
-    requires { ⌜ FewTypes (now types) × FewProperties (now properties) × FewNodes (now nodes) × FewSlots (now slots) × FewItems (now items) × Tabulates (λ k. slotOfItem (instanceOf [] (now slots) []) k) 2048 (now owners) ⌝ }
+    requires { ⌜ FewTypes (now types) × FewProperties (now properties) × FewNodes (now nodes) × FewSlots (now slots) × FewItems (now items) × Tabulates (λ k. slotOfItem (instanceOf [] (now slots) []) k) 2048 (now «item_slots») ⌝ }
     ensures { λ r. ⌜ (r ≡ search.firstFrom (λ w. node26 (modelOf [] (now (types .entry)) (now (properties .entry)) [] [] [] [] [] []) (instanceOf (now (nodes .entry)) (now (slots .entry)) (now (items .entry))) w) 0 (nodeCount (now (nodes .entry)))) × (r ≤ 256) ⌝ }
 {
-    let holders = nodes_of_slots(nodes);
-    let to = held_nodes(types, properties, nodes, slots, items, owners);
-    first_within(owners, &holders, &to, item_count(items), node_count(nodes))
+    let slot_nodes = nodes_of_slots(nodes);
+    let to = held_nodes(types, properties, nodes, slots, items, item_slots);
+    first_within(
+        item_slots,
+        &slot_nodes,
+        &to,
+        item_count(items),
+        node_count(nodes),
+    )
 }

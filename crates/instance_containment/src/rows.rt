@@ -39,14 +39,18 @@ fn put_step(rows: &mut [u64], from: u16, to: u16)
 }
 
 // The nodes that each node holds through one of the c items.
-fn step_rows(slots: &[u16], nodes: &[u16], to: &[u16], c: u16) -> [u64; 1024]
-    ensures { λ r. ⌜ Steps (stepIn (nodeIn (now (slots .entry)) (now (nodes .entry))) (entry (now (to .entry))) c) r ⌝ }
+fn step_rows(item_slots: &[u16], slot_nodes: &[u16], to: &[u16], c: u16) -> [u64; 1024]
+    ensures { λ r. ⌜ Steps (stepIn (nodeIn (now («item_slots» .entry)) (now («slot_nodes» .entry))) (entry (now (to .entry))) c) r ⌝ }
 {
     let mut rows = [0u64; 1024];
     let mut k = c;
     while 0 < k {
         k -= 1;
-        put_step(&mut rows, node_of(slots, nodes, k), read_at(to, k));
+        put_step(
+            &mut rows,
+            node_of(item_slots, slot_nodes, k),
+            read_at(to, k),
+        );
     }
     rows
 }
@@ -108,11 +112,18 @@ fn first_in_rows(times: &[u16], rows: &[u64], n: u16) -> u16
 }
 
 // The first of n nodes that is held more than once or is within itself: 0 for none, else its number plus 1.
-pub fn first_by_rows(slots: &[u16], nodes: &[u16], to: &[u16], times: &[u16], c: u16, n: u16) -> u16
+pub(crate) fn first_by_rows(
+    item_slots: &[u16],
+    slot_nodes: &[u16],
+    to: &[u16],
+    times: &[u16],
+    c: u16,
+    n: u16,
+) -> u16
     requires { ⌜ n ≤ 256 ⌝ }
-    ensures { λ r. ⌜ (r ≡ firstFrom (λ w. ltb 1 (getD (now (times .entry)) w 0) || withinIn (nodeIn (now (slots .entry)) (now (nodes .entry))) (entry (now (to .entry))) c n w) 0 n) × (r ≤ 256) ⌝ }
+    ensures { λ r. ⌜ (r ≡ firstFrom (λ w. ltb 1 (getD (now (times .entry)) w 0) || withinIn (nodeIn (now («item_slots» .entry)) (now («slot_nodes» .entry))) (entry (now (to .entry))) c n w) 0 n) × (r ≤ 256) ⌝ }
 {
-    let mut rows = step_rows(slots, nodes, to, c);
+    let mut rows = step_rows(item_slots, slot_nodes, to, c);
     close_rows(&mut rows, n);
     first_in_rows(times, &rows, n)
 }

@@ -1,4 +1,4 @@
--- What an instance image that keeps rule 20 is like: its length, its counts, its three parts. Assumes nothing.
+-- Rule 20 leaves what `Sized` says. Assumes nothing.
 use mathlib.Core.Path.{_≡_, refl}
 use mathlib.Core.List.{List}
 use mathlib.Core.Bool.{Bool, true, false, _||_}
@@ -9,28 +9,15 @@ use lib.ListN.{length, length-take, length-drop}
 use borrow.Author.Tests.{ltb-false, not-false, eqb-true}
 use Rattle.packed.specs.Bytes.{between}
 use Rattle.csdl.specs.Image.{header}
-use Rattle.csdl.specs.Instance.{itemForm, instanceOf, instanceIn, image20, image20a, image20b, image20c, image20d, slotsFrom, itemsFrom, instanceEnd}
-
-pub record Sized (image : List ℕ) : Type 0 where
-  pub whole : length image ≡ instanceEnd image
-  pub nodes-most : header image 1 ≤ 256
-  pub slots-most : header image 2 ≤ 1024
-  pub items-most : header image 3 ≤ 2048
-  pub nodes-end : slotsFrom image ≤ length image
-  pub slots-end : itemsFrom image ≤ length image
-  pub nodes-length : length (between image 8 (slotsFrom image)) ≤ 1024
-  pub slots-length : length (between image (slotsFrom image) (itemsFrom image)) ≤ 5120
-  pub items-length : length (between image (itemsFrom image) (instanceEnd image)) ≤ 8192
-  pub nodes-count : instanceIn image .nodes ≡ header image 1
-  pub slots-count : instanceIn image .slots ≡ header image 2
-  pub items-count : instanceIn image .items ≡ header image 3
+use Rattle.csdl.specs.Instance.{itemForm, instanceOf, instanceIn, image20, image20a, image20b, image20c, image20d}
+use Rattle.instance_image.specs.Sized.{Sized}
 
 or-no : (a b : Bool) → (a || b) ≡ false → (a ≡ false) × (b ≡ false)
 or-no true b e = (e, cc)
 or-no false b e = (refl, e)
 
 -- The length of a part that lies within.
-pub between-length : (s : List ℕ) (a e : ℕ) → e ≤ length s → length (between s a e) ≡ e - a
+between-length : (s : List ℕ) (a e : ℕ) → e ≤ length s → length (between s a e) ≡ e - a
 between-length s a e h = simp (length-take, length-drop) (omega arith)
 
 pub sized : (image : List ℕ) → image20 image ≡ false → Sized image
@@ -58,8 +45,6 @@ sized image h =
       nodes-most = nm;
       slots-most = sm;
       items-most = im;
-      nodes-end = ne;
-      slots-end = se;
       nodes-length = rw ln (omega (arith, nm));
       slots-length = rw ls (omega (arith, sm));
       items-length = rw li (omega (arith, im));

@@ -1,2 +1,3 @@
 pub mod Tables
 pub mod Limits
+pub mod Sized

@@ -1,6 +1,7 @@
 // The form of an instance image: rule 20.
 ghost use mathlib.Core.Path.{_≡_};
 ghost use Rattle.csdl.specs.Instance.{image20};
+use crate::tables::items_end;
 use csdl::VERSION;
 use packed::number_at;
 
@@ -12,9 +13,9 @@ pub fn bad_instance(image: &[u8]) -> bool
     let nodes = number_at(image, 1);
     let slots = number_at(image, 2);
     let items = number_at(image, 3);
-    let end = 8 + 4 * (nodes as usize) + 5 * (slots as usize) + 4 * (items as usize);
+    let end = items_end(image);
     (image.len() < 8)
         | (version != VERSION)
         | ((256 < nodes) | (1024 < slots) | (2048 < items))
-        | (image.len() != end)
+        | (image.len() != end as usize)
 }

@@ -1,5 +1,5 @@
 -- What the check keeps in arrays.
-use Prim.Native.Nat.{ℕ, zero, suc, _+_, _<_, min}
+use Prim.Native.Nat.{ℕ, _<_, min}
 use mathlib.Core.Path.{_≡_}
 use mathlib.Core.List.{List}
 use mathlib.Core.Bool.{cond}

@@ -75,7 +75,7 @@ pub fn slots_of_items(slots: &[u8]) -> [u16; 2048]
 }
 
 // In how many runs each slot stands, at most 2.
-pub fn nodes_with(nodes: &[u8]) -> [u16; 1024]
+pub(crate) fn nodes_with(nodes: &[u8]) -> [u16; 1024]
     requires { ⌜ FewNodes (now nodes) ⌝ }
     ensures { λ r. ⌜ r ≡ tab (λ k. toTwo (nodesWith (instanceOf (now (nodes .entry)) [] []) k)) 0 1024 ⌝ }
 {
@@ -90,7 +90,7 @@ pub fn nodes_with(nodes: &[u8]) -> [u16; 1024]
 }
 
 // In how many runs each item stands, at most 2.
-pub fn slots_with(slots: &[u8]) -> [u16; 2048]
+pub(crate) fn slots_with(slots: &[u8]) -> [u16; 2048]
     requires { ⌜ FewSlots (now slots) ⌝ }
     ensures { λ r. ⌜ r ≡ tab (λ k. toTwo (slotsWith (instanceOf [] (now (slots .entry)) []) k)) 0 2048 ⌝ }
 {

@@ -1,5 +1,6 @@
 // Rules 22, 24 and 25: nodes, slots and items against the model.
 ghost use mathlib.Core.Path.{_≡_};
+ghost use mathlib.Core.Bool.{false};
 ghost use mathlib.Core.List.{[]};
 ghost use Prim.Native.Nat.{_-_, _+_, _≤_, _<_};
 ghost use Rattle.csdl.specs.Search as search;
@@ -74,19 +75,23 @@ fn carries_node(types: &[u8], nodes: &[u8], items: &[u8], ancestors: &[u64], u: 
     ancestor_or_self(types, ancestors, u, t)
 }
 
-// Rule 25 of an item of property p.
+// Rule 25 of an item, by its property: 0 for none, else the number plus 1.
 fn item_25_of(
     types: &[u8],
     properties: &[u8],
     nodes: &[u8],
     items: &[u8],
     ancestors: &[u64],
-    p: u16,
+    property: u16,
     k: u16,
 ) -> bool
     requires { ⌜ FewTypes (now types) × FewNodes (now nodes) × (now ancestors ≡ ancestorsOf (now types)) ⌝ }
-    ensures { λ r. ⌜ r ≡ item25of (modelOf [] (now (types .entry)) (now (properties .entry)) [] [] [] [] [] []) (instanceOf (now (nodes .entry)) [] (now (items .entry))) p k ⌝ }
+    ensures { λ r. ⌜ r ≡ search.ifFound false (λ p. item25of (modelOf [] (now (types .entry)) (now (properties .entry)) [] [] [] [] [] []) (instanceOf (now (nodes .entry)) [] (now (items .entry))) p k) property ⌝ }
 {
+    if property == 0 {
+        return false;
+    }
+    let p = property - 1;
     if is_null(items, k) {
         return !(property_collection(properties, p) & property_nullable(properties, p));
     }
@@ -97,17 +102,16 @@ fn item_25_of(
     item_ref(items, k) != u
 }
 
-// The property of the slot that has item k; where no slot has it, a number that no property has. `owners` has for each item the slot
-// whose run has it.
-pub fn item_property(slots: &[u8], owners: &[u16], k: u16) -> u16
-    requires { ⌜ (k < 2048) × Tabulates (λ k. slotOfItem (instanceOf [] (now slots) []) k) 2048 (now owners) ⌝ }
+// The property of the slot that has item k: 0 for none, else its number plus 1. `item_slots` has for each item the slot whose run has it.
+pub fn item_property(slots: &[u8], item_slots: &[u16], k: u16) -> u16
+    requires { ⌜ (k < 2048) × Tabulates (λ k. slotOfItem (instanceOf [] (now slots) []) k) 2048 (now «item_slots») ⌝ }
     ensures { λ r. ⌜ r ≡ itemProperty (instanceOf [] (now (slots .entry)) []) k ⌝ }
 {
-    let owner = owners[k as usize];
-    if owner == 0 {
-        return 512;
+    let slot = item_slots[k as usize];
+    if slot == 0 {
+        return 0;
     }
-    slot_property(slots, owner - 1)
+    slot_property(slots, slot - 1) + 1
 }
 
 // The first node that breaks rule 22: 0 for none, else its number plus 1.
@@ -142,24 +146,24 @@ pub fn first_24(properties: &[u8], slots: &[u8]) -> u16
     0
 }
 
-// The first item that breaks rule 25: 0 for none, else its number plus 1. `owners` has for each item the slot whose run has it.
+// The first item that breaks rule 25: 0 for none, else its number plus 1. `item_slots` has for each item the slot whose run has it.
 pub fn first_25(
     types: &[u8],
     properties: &[u8],
     nodes: &[u8],
     slots: &[u8],
     items: &[u8],
-    owners: &[u16],
+    item_slots: &[u16],
 ) -> u16
-    requires { ⌜ FewTypes (now types) × FewNodes (now nodes) × FewItems (now items) × Tabulates (λ k. slotOfItem (instanceOf [] (now slots) []) k) 2048 (now owners) ⌝ }
+    requires { ⌜ FewTypes (now types) × FewNodes (now nodes) × FewItems (now items) × Tabulates (λ k. slotOfItem (instanceOf [] (now slots) []) k) 2048 (now «item_slots») ⌝ }
     ensures { λ r. ⌜ (r ≡ search.firstFrom (λ k. item25 (modelOf [] (now (types .entry)) (now (properties .entry)) [] [] [] [] [] []) (instanceOf (now (nodes .entry)) (now (slots .entry)) (now (items .entry))) k) 0 (itemCount (now (items .entry)))) × (r ≤ 2048) ⌝ }
 {
     let ancestors = all_ancestors(types);
     let n = item_count(items);
     let mut k: u16 = 0;
     while k < n {
-        let p = item_property(slots, owners, k);
-        if item_25_of(types, properties, nodes, items, &ancestors, p, k) {
+        let property = item_property(slots, item_slots, k);
+        if item_25_of(types, properties, nodes, items, &ancestors, property, k) {
             return k + 1;
         }
         k += 1;

@@ -12,7 +12,7 @@ ghost use Rattle.csdl.specs.Instance.{instanceOf, nodeCount};
 ghost use Rattle.csdl.specs.Conforms.{node23};
 ghost use Rattle.name_classes.specs.Classes.{nameOf, Ranked};
 ghost use Rattle.type_names.specs.Wide.{wide};
-ghost use Rattle.instance_values.specs.Rows.{unlikeSet, Rows};
+ghost use Rattle.instance_values.specs.Rows.{unlikeSet};
 ghost use Rattle.model_image.specs.Limits.{FewProperties, FewTypes};
 ghost use Rattle.instance_image.specs.Limits.{FewNodes};
 use instance_image::fields::node_count;
@@ -89,6 +89,9 @@ pub fn first_23(types: &[u8], properties: &[u8], names: &[u8], nodes: &[u8], slo
     requires { ⌜ FewTypes (now types) × FewProperties (now properties) × FewNodes (now nodes) ⌝ }
     ensures { λ r. ⌜ (r ≡ search.firstFrom (λ v. node23 (modelOf [] (now (types .entry)) (now (properties .entry)) [] [] [] [] [] (now (names .entry))) (instanceOf (now (nodes .entry)) (now (slots .entry)) []) v) 0 (nodeCount (now (nodes .entry)))) × (r ≤ 256) ⌝ }
 {
+    if node_count(nodes) == 0 {
+        return 0;
+    }
     let index = ranked(properties, names);
     nodes_23(types, properties, names, &index, nodes, slots)
 }

@@ -3,7 +3,7 @@
 // a property's number plus 1. Entry 1536: how many names there are. Entries from 1537 on: for each of 256 buckets some property, where a lookup
 // looks first; it may be any, since the name is compared.
 ghost use mathlib.Core.Path.{_≡_};
-ghost use Prim.Native.Nat.{ℕ, _+_, _≤_, _<_};
+ghost use Prim.Native.Nat.{ℕ, _+_, _<_};
 ghost use lib.Dec.{eqb};
 ghost use lib.ListN.{length, getD};
 ghost use Rattle.csdl.specs.Search.{firstFrom};
@@ -11,31 +11,10 @@ ghost use Rattle.csdl.specs.Tables.{propertyCount};
 ghost use Rattle.name_classes.specs.Classes.{nameOf, nameCount, nameRank};
 ghost use Rattle.lookup.specs.Index as chains;
 ghost use Rattle.model_image.specs.Limits.{FewProperties};
-use crate::texts::property_text;
+use crate::buckets::bucket_of;
 use model_image::properties::property_count;
-use name_classes::first_properties::first_of;
-use name_classes::first_properties::has_name;
+use model_image::texts::property_text;
 use name_classes::first_properties::ranked;
-use packed::byte_at;
-
-// Byte k from the end, 0 where there is none.
-fn from_end(s: &[u8], k: usize) -> u64
-    requires { ⌜ k < 4 ⌝ }
-    ensures { λ r. ⌜ r < 256 ⌝ }
-{
-    if s.len() <= k {
-        return 0;
-    }
-    byte_at(s, s.len() - (k + 1))
-}
-
-// The bucket of a name.
-fn bucket_of(s: &[u8]) -> u16
-    ensures { λ r. ⌜ r < 256 ⌝ }
-{
-    let sum = 37 * byte_at(s, 0) + 100 * from_end(s, 2) + 10 * from_end(s, 1) + from_end(s, 0);
-    (sum % 256) as u16
-}
 
 // The index, its chains filled from the last property to the first: `later` has the property of each name that was met last.
 pub fn index_of(properties: &[u8], names: &[u8]) -> [u16; 1793]
@@ -58,23 +37,6 @@ pub fn index_of(properties: &[u8], names: &[u8]) -> [u16; 1793]
         p -= 1;
     }
     index
-}
-
-// The first property that has the name.
-pub fn first_named(properties: &[u8], names: &[u8], index: &[u16], name: &[u8]) -> u16
-    requires { ⌜ FewProperties (now properties) × chains.Indexed (now properties) (now names) (now index) ⌝ }
-    ensures { λ r. ⌜ (r ≡ chains.namedFrom (now (properties .entry)) (now (names .entry)) (now (name .entry)) 0) × (r ≤ 512) ⌝ }
-{
-    let guess = index[1537 + (bucket_of(name) as usize)];
-    let n = property_count(properties);
-    if 0 < guess {
-        if guess <= n {
-            if has_name(properties, names, guess - 1, name) {
-                return first_alike(index, guess - 1);
-            }
-        }
-    }
-    first_of(properties, names, index, name)
 }
 
 // The first property that has the name of p, and the next.

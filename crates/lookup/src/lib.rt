@@ -1,4 +1,4 @@
-// Finding things by name: properties at a type, the index of their names, names as bytes.
+// Finding properties by name: those at a type (`names`), the index of their names (`index`).
+mod buckets;
 pub mod index;
 pub mod names;
-pub mod texts;

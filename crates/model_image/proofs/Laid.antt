@@ -1,12 +1,12 @@
 -- What a layout says of its image and of the model in it. Assumes nothing.
-use Prim.Native.Nat.{ℕ, _+_, _-_, _*_, _≤_, _<_}
+use Prim.Native.Nat.{ℕ, _+_, _-_, _≤_, _<_}
 use mathlib.Core.Path.{_≡_, refl, _∙_}
 use mathlib.Core.List.{List}
 use native.Mathlib.Omega.{arith}
 use lib.ListN.{length, take, drop}
 use Rattle.packed.specs.Bytes.{part, between}
-use Rattle.csdl.specs.Model.{modelOf, recordAt}
-use Rattle.csdl.specs.Image.{modelIn, header, typesFrom, propertiesFrom, keysFrom, constraintsFrom, childrenFrom, bindingsFrom, segmentsFrom, namesFrom, imageEnd}
+use Rattle.csdl.specs.Model.{recordAt}
+use Rattle.csdl.specs.Image.{modelIn, namesFrom, imageEnd}
 use Rattle.model_image.specs.declared.image.Counts.{Counts}
 use Rattle.model_image.specs.declared.image.Starts.{Starts}
 use Rattle.model_image.specs.declared.layout.Layout.{Layout}

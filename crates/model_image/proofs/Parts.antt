@@ -1,16 +1,17 @@
 -- What an image that keeps rule 1 has: counts within their limits, nine parts that fill it, and a model with the header's counts.
 -- Assumes nothing.
-use mathlib.Core.Path.{_≡_, refl, sym}
+use mathlib.Core.Path.{_≡_}
 use mathlib.Core.List.{List}
-use mathlib.Core.Bool.{Bool, true, false, not, _||_, false≢true}
+use mathlib.Core.Bool.{Bool, false, _||_}
 use Prim.Native.Nat.{ℕ, _+_, _*_, _≤_}
 use native.Mathlib.Omega.{arith}
 use lib.ListN.{length, length-take, length-drop}
 use lib.Dec.{eqb, ltb}
-use borrow.Author.Tests.{eqb-true, eqb-false, ltb-false}
+use borrow.Author.Tests.{eqb-true, eqb-false, ltb-false, not-false}
 use Rattle.packed.specs.Bytes.{between}
 use Rattle.csdl.specs.Model.{modelOf}
 use Rattle.csdl.specs.Image as images
+use Rattle.csdl.proofs.Logic.{or-no}
 use Rattle.model_image.specs.Sized.{Sized}
 use Rattle.csdl.specs.Image.{header, typesFrom, propertiesFrom, keysFrom, constraintsFrom, childrenFrom, bindingsFrom, segmentsFrom, namesFrom, imageEnd}
 
@@ -38,37 +39,26 @@ pub record Counts (image : List ℕ) : Type 0 where
   pub segments : images.modelIn image .segments ≡ header image 8
   pub names : length (images.modelIn image .names) ≡ header image 9
 
-neither : (a b : Bool) → (a || b) ≡ false → (a ≡ false) × (b ≡ false)
-neither false b h = (refl, h)
-neither true b h = absurd (false≢true (sym h))
-
 none : (a b c d e f g h i j : Bool) → (a || b || c || d || e || f || g || h || i || j) ≡ false
     → (a ≡ false) × (b ≡ false) × (c ≡ false) × (d ≡ false) × (e ≡ false) × (f ≡ false) × (g ≡ false) × (h ≡ false) × (i ≡ false) × (j ≡ false)
 none a b c d e f g h i j p =
-    let p9 = neither (a || b || c || d || e || f || g || h || i) j p in
-    let p8 = neither (a || b || c || d || e || f || g || h) i (p9 .0) in
-    let p7 = neither (a || b || c || d || e || f || g) h (p8 .0) in
-    let p6 = neither (a || b || c || d || e || f) g (p7 .0) in
-    let p5 = neither (a || b || c || d || e) f (p6 .0) in
-    let p4 = neither (a || b || c || d) e (p5 .0) in
-    let p3 = neither (a || b || c) d (p4 .0) in
-    let p2 = neither (a || b) c (p3 .0) in
-    let p1 = neither a b (p2 .0) in
+    let p9 = or-no (a || b || c || d || e || f || g || h || i) j p in
+    let p8 = or-no (a || b || c || d || e || f || g || h) i (p9 .0) in
+    let p7 = or-no (a || b || c || d || e || f || g) h (p8 .0) in
+    let p6 = or-no (a || b || c || d || e || f) g (p7 .0) in
+    let p5 = or-no (a || b || c || d || e) f (p6 .0) in
+    let p4 = or-no (a || b || c || d) e (p5 .0) in
+    let p3 = or-no (a || b || c) d (p4 .0) in
+    let p2 = or-no (a || b) c (p3 .0) in
+    let p1 = or-no a b (p2 .0) in
     (p1 .0, p1 .1, p2 .1, p3 .1, p4 .1, p5 .1, p6 .1, p7 .1, p8 .1, p9 .1)
-
-equal : (a b : ℕ) → not (eqb a b) ≡ false → a ≡ b
-equal a b h = eqb-true a b (flip (eqb a b) h)
-  where
-    flip : (x : Bool) → not x ≡ false → x ≡ true
-    flip true p = refl
-    flip false p = sym p
 
 module _ (image : List ℕ) where
   pub layout : images.image1 image ≡ false → Sized image
   unfolding images.image1
   layout h =
-      let d = neither (images.image1a image || images.image1b image || images.image1c image) (images.image1d image) h in
-      let c = neither (images.image1a image || images.image1b image) (images.image1c image) (d .0) in
+      let d = or-no (images.image1a image || images.image1b image || images.image1c image) (images.image1d image) h in
+      let c = or-no (images.image1a image || images.image1b image) (images.image1c image) (d .0) in
       let n = none (eqb (header image 1) 0) (ltb 16 (header image 1)) (ltb 64 (header image 2)) (ltb 512 (header image 3)) (ltb 128 (header image 4))
       (ltb 64 (header image 5)) (ltb 64 (header image 6)) (ltb 128 (header image 7)) (ltb 1024 (header image 8)) (ltb 4096 (header image 9)) (c .1) in
       record {
@@ -82,7 +72,7 @@ module _ (image : List ℕ) where
         bindings = ltb-false 128 (header image 7) (n .7);
         segments = ltb-false 1024 (header image 8) (n .8);
         names = ltb-false 4096 (header image 9) (n .9);
-        whole = equal (length image) (imageEnd image) (d .1);
+        whole = eqb-true (length image) (imageEnd image) (not-false (eqb (length image) (imageEnd image)) (d .1));
       }
 
   part-length : (a n : ℕ) → a + n ≤ length image → length (between image a (a + n)) ≡ n

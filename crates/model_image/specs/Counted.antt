@@ -1,9 +1,9 @@
 -- The counts of a header as a value, and what they give: where each part begins, and rule 1c.
-use Prim.Native.Nat.{ℕ, _+_, _*_}
-use mathlib.Core.List.{List}
-use mathlib.Core.Bool.{Bool, _||_}
-use lib.Dec.{eqb, ltb}
-use Rattle.csdl.specs.Image.{header}
+use Prim.Native.Nat.{ℕ, _+_, _-_}
+use mathlib.Core.List.{List, [], _∷_}
+use mathlib.Core.Bool.{Bool}
+use lib.ListN.{getD}
+use Rattle.csdl.specs.Image.{header, partFrom, modelSizes, beyond1c}
 use Rattle.model_image.specs.declared.image.Counts.{Counts}
 use Rattle.model_image.specs.declared.image.Starts.{Starts}
 
@@ -21,21 +21,27 @@ countsIn image =
       names = header image 9;
     }
 
+-- The count by its number in the header; where part k begins.
+abbrev countBy : Counts → ℕ → ℕ
+countBy n i =
+    getD (n .schemas ∷ n .types ∷ n .properties ∷ n .keys ∷ n .constraints ∷ n .children ∷ n .bindings ∷ n .segments ∷ n .names ∷ []) (i - 1) 0
+
+abbrev startBy : Counts → ℕ → ℕ
+startBy n k = partFrom (λ i. countBy n i) 20 1 modelSizes k
+
 abbrev pub startsBy : Counts → Starts
 startsBy n =
     record {
-      types = 20 + 5 * n .schemas;
-      properties = 20 + 5 * n .schemas + 6 * n .types;
-      keys = 20 + 5 * n .schemas + 6 * n .types + 7 * n .properties;
-      constraints = 20 + 5 * n .schemas + 6 * n .types + 7 * n .properties + 6 * n .keys;
-      children = 20 + 5 * n .schemas + 6 * n .types + 7 * n .properties + 6 * n .keys + 5 * n .constraints;
-      bindings = 20 + 5 * n .schemas + 6 * n .types + 7 * n .properties + 6 * n .keys + 5 * n .constraints + 4 * n .children;
-      segments = 20 + 5 * n .schemas + 6 * n .types + 7 * n .properties + 6 * n .keys + 5 * n .constraints + 4 * n .children + 6 * n .bindings;
-      names = 20 + 5 * n .schemas + 6 * n .types + 7 * n .properties + 6 * n .keys + 5 * n .constraints + 4 * n .children + 6 * n .bindings + 3 * n .segments;
-      end = 20 + 5 * n .schemas + 6 * n .types + 7 * n .properties + 6 * n .keys + 5 * n .constraints + 4 * n .children + 6 * n .bindings + 3 * n .segments + n .names;
+      types = startBy n 1;
+      properties = startBy n 2;
+      keys = startBy n 3;
+      constraints = startBy n 4;
+      children = startBy n 5;
+      bindings = startBy n 6;
+      segments = startBy n 7;
+      names = startBy n 8;
+      end = startBy n 8 + n .names;
     }
 
 abbrev pub unlimited : Counts → Bool
-unlimited n =
-    eqb (n .schemas) 0 || ltb 16 (n .schemas) || ltb 64 (n .types) || ltb 512 (n .properties) || ltb 128 (n .keys)
-    || ltb 64 (n .constraints) || ltb 64 (n .children) || ltb 128 (n .bindings) || ltb 1024 (n .segments) || ltb 4096 (n .names)
+unlimited n = beyond1c (λ i. countBy n i)

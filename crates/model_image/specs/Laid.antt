@@ -1,15 +1,13 @@
 -- Where the tables of a model image stand: the bytes at which each begins, and the places of its records.
-use Prim.Native.Nat.{ℕ, _-_, _≤_}
+use Prim.Native.Nat.{ℕ, _≤_}
 use mathlib.Core.Path.{_≡_}
 use mathlib.Core.List.{List}
-use mathlib.Core.Bool.{cond}
 use lib.ListN.{length}
-use lib.Dec.{ltb}
 use Rattle.packed.specs.Bytes.{between}
-use Rattle.csdl.specs.Model.{typesAt, propertiesAt, keysAt, constraintsAt, childrenAt, bindingsAt, segmentsAt, places}
+use Rattle.csdl.specs.Model.{Table, typesAt, propertiesAt, keysAt, constraintsAt, childrenAt, bindingsAt, segmentsAt, places, recordFrom}
+use Rattle.csdl.specs.Model.Table.{schema-table, type-table, property-table, key-table, constraint-table, child-table, binding-table, segment-table}
 use Rattle.csdl.specs.Image.{typesFrom, propertiesFrom, keysFrom, constraintsFrom, childrenFrom, bindingsFrom, segmentsFrom, namesFrom, imageEnd, modelIn}
 use Rattle.csdl.specs.declared.Record.{Record}
-use Rattle.csdl.specs.declared.Record.the-variants.{OfSchema, OfType, OfProperty, OfKey, OfConstraint, OfChild, OfBinding, OfSegment, Nowhere}
 use Rattle.model_image.specs.declared.layout.Layout.{Layout}
 use Rattle.model_image.specs.Limits.{FewSchemas, FewTypes, FewProperties, FewKeys, FewConstraints, FewChildren, FewBindings, FewSegments}
 
@@ -96,14 +94,16 @@ pub record LaidOut (image : List ℕ) (at : Layout) : Type 0 where
 unfoldable pub Laid : List ℕ → Layout → Type 0
 Laid image at = LaidOut image at
 
--- The record at a place.
+-- The first place of each table, and the record at a place.
+abbrev firstIn : Layout → Table → ℕ
+firstIn at schema-table = 0
+firstIn at type-table = at .«types_place»
+firstIn at property-table = at .«properties_place»
+firstIn at key-table = at .«keys_place»
+firstIn at constraint-table = at .«constraints_place»
+firstIn at child-table = at .«children_place»
+firstIn at binding-table = at .«bindings_place»
+firstIn at segment-table = at .«segments_place»
+
 unfoldable pub recordBy : Layout → ℕ → Record
-recordBy at place =
-    cond (ltb place (at .«types_place»)) (OfSchema place)
-    (cond (ltb place (at .«properties_place»)) (OfType (place - at .«types_place»))
-    (cond (ltb place (at .«keys_place»)) (OfProperty (place - at .«properties_place»))
-    (cond (ltb place (at .«constraints_place»)) (OfKey (place - at .«keys_place»))
-    (cond (ltb place (at .«children_place»)) (OfConstraint (place - at .«constraints_place»))
-    (cond (ltb place (at .«bindings_place»)) (OfChild (place - at .«children_place»))
-    (cond (ltb place (at .«segments_place»)) (OfBinding (place - at .«bindings_place»))
-    (cond (ltb place (at .places)) (OfSegment (place - at .«segments_place»)) Nowhere)))))))
+recordBy at place = recordFrom (λ t. firstIn at t) (at .places) place

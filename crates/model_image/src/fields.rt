@@ -1,6 +1,6 @@
 // Names and paths as fields of a record, and the bytes of a name.
 ghost use mathlib.Core.Path.{_≡_};
-ghost use Prim.Native.Nat.{_+_, _<_, _≤_};
+ghost use Prim.Native.Nat.{_+_, _<_};
 ghost use Rattle.packed.specs.Field.{fieldOf};
 ghost use Rattle.packed.specs.Bytes.{part};
 use csdl::Run;
@@ -14,7 +14,7 @@ pub struct Name {
 }
 
 // The name field at a bit offset, start and length read at once.
-pub fn name_in(table: &[u8], at: u32) -> Name
+pub(crate) fn name_in(table: &[u8], at: u32) -> Name
     ensures { λ r. ⌜ (r .start ≡ fieldOf (now (table .entry)) at 12) × (r .size ≡ fieldOf (now (table .entry)) (at + 12) 8) × (r .start < 4096) × (r .size < 256) ⌝ }
 {
     let both = two_fields(table, at, 12, 8);
@@ -25,7 +25,7 @@ pub fn name_in(table: &[u8], at: u32) -> Name
 }
 
 // The path field at a bit offset, likewise.
-pub fn path_in(table: &[u8], at: u32) -> Run
+pub(crate) fn path_in(table: &[u8], at: u32) -> Run
     ensures { λ r. ⌜ (r .first ≡ fieldOf (now (table .entry)) at 11) × (r .count ≡ fieldOf (now (table .entry)) (at + 11) 4) × (r .first < 2048) × (r .count < 16) ⌝ }
 {
     let both = two_fields(table, at, 11, 4);

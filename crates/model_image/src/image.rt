@@ -1,4 +1,4 @@
-// The header of a model image, where its parts begin, and rules 1 and 2.
+// The header of a model image, where its parts begin, and rule 1.
 ghost use mathlib.Core.Path.{_≡_};
 ghost use Prim.Native.Nat.{_+_, _*_, _≤_};
 ghost use Rattle.csdl.specs.Image as images;

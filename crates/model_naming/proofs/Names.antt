@@ -1,7 +1,7 @@
 -- The name of a record, by what the code read. Assumes nothing.
 use Prim.Native.Nat.{ℕ, _+_, _-_, _*_, _≤_, _<_}
 use mathlib.Core.Path.{_≡_, refl, sym, ap, _∙_}
-use mathlib.Core.List.{List, []}
+use mathlib.Core.List.{List}
 use mathlib.Core.Bool.{Bool, true, false, cond, not}
 use native.Mathlib.Omega.{arith}
 use lib.ListN.{length, take, drop, length-drop}
@@ -12,8 +12,6 @@ use Rattle.csdl.specs.Model.{Model, modelOf, recordAt, places}
 use Rattle.csdl.specs.Image.{modelIn, image1, namesFrom, imageEnd}
 use Rattle.csdl.specs.Verdict.{verdict}
 use Rattle.csdl.specs.Naming.{noName, nameHeld, recordName, nameOfRecord}
-use Rattle.csdl.specs.declared.Record.{Record}
-use Rattle.csdl.specs.declared.Record.the-variants.{OfSchema, OfType, OfProperty, OfKey, OfConstraint, OfChild, OfBinding, OfSegment, Nowhere}
 use Rattle.packed.proofs.Laws.{field-lt, field-past}
 use Rattle.model_image.proofs.Parts.{layout, counts}
 use Rattle.model_rules.specs.Stages.{formed}

@@ -1,11 +1,11 @@
 -- Rules 13 and 14, which go along the paths: the lowest place that breaks them, and what rule 14 rests on. Assumes nothing.
-use Prim.Native.Nat.{ℕ, _+_, _-_, _/_, _≤_, _<_}
+use Prim.Native.Nat.{ℕ, _-_, _≤_}
 use mathlib.Core.Path.{_≡_, _∙_}
 use mathlib.Core.List.{List, []}
 use native.Mathlib.Omega.{arith}
 use Rattle.csdl.specs.Search.{firstFrom, sumOf, placeFound}
 use Rattle.csdl.specs.Tables.{segmentCount}
-use Rattle.csdl.specs.Model.{Model, modelOf}
+use Rattle.csdl.specs.Model.{modelOf}
 use Rattle.csdl.specs.Model.Table.{segment-table}
 use Rattle.csdl.specs.Image.{modelIn}
 use Rattle.csdl.specs.Form.{rule4}

@@ -1,7 +1,7 @@
 -- The place of a record that was found in its table. Assumes nothing.
 use mathlib.Core.Path.{_≡_, refl, _∙_}
 use mathlib.Core.Bool.{Bool}
-use Prim.Native.Nat.{ℕ, zero, suc, _+_, _≤_}
+use Prim.Native.Nat.{ℕ, zero, suc, _≤_}
 use native.Mathlib.Omega.{arith}
 use Rattle.csdl.specs.Search.{firstFrom}
 use Rattle.csdl.proofs.Logic.{first-found}

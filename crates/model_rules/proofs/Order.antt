@@ -1,16 +1,15 @@
 -- The rules one after another: each hands on where no place breaks it. Assumes nothing.
 use Prim.Native.Nat.{ℕ, zero, suc, _+_, _-_, _≤_, _<_}
-use mathlib.Core.Path.{_≡_, refl, sym, ap, fun-ext, _∙_}
-use mathlib.Core.List.{List, [], _∷_}
+use mathlib.Core.Path.{_≡_, refl, sym, _∙_}
+use mathlib.Core.List.{[], _∷_}
 use mathlib.Core.Bool.{Bool, true, false, cond, _&&_}
 use native.Mathlib.Omega.{arith}
 use lib.Dec.{eqb, ltb, eqb·suc-zero}
 use borrow.Author.Tests.{ltb-true, ltb-false}
 use Rattle.csdl.specs.Search.{firstFrom}
 use Rattle.csdl.specs.Tables.{Name}
-use Rattle.csdl.specs.Model.{Model, places, recordAt}
+use Rattle.csdl.specs.Model.{Model, places}
 use Rattle.csdl.specs.Form.{rule3, rule4, rule5}
-use Rattle.csdl.specs.Paths.{rule19}
 use Rattle.csdl.specs.declared.Record.{Record}
 use Rattle.csdl.specs.Verdict.{Answer, brokenAt, refuse, verdict, formStages, modelStages, modelVerdict, modelMeans}
 use Rattle.csdl.specs.Verdict.Answer.{accepted, refused}
@@ -74,6 +73,14 @@ module _ (m : Model) where
   pub judged-clear : (n s : ℕ) → s ≡ m .segments → Clear m n → Judged m n (Accepted s)
   unfolding Judged
   judged-clear n s e c = (e, c)
+
+  pub judged-unbroken : (n s : ℕ) (r : ModelAnswer) → Judged m n r → r ≡ Accepted s → Clear m n
+  unfolding Judged
+  judged-unbroken n s r j e = let k : Judged m n (Accepted s) = rw e at j in k .1
+
+  pub judged-refused : (a b rule place : ℕ) (r : ModelAnswer) → Judged m a r → r ≡ Refused rule place → Judged m b r
+  unfolding Judged
+  judged-refused a b rule place r j e = rw e (rw e at j)
 
   -- with all rules asked, the answer is that of the check
   pub judged-all : (r : ModelAnswer) → Judged m 20 r → modelMeans r ≡ modelVerdict m (accepted (m .segments ∷ []))

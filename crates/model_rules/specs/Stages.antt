@@ -2,9 +2,14 @@
 use Prim.Native.Nat.{ℕ, _≤_, _<_}
 use mathlib.Core.Path.{_≡_}
 use mathlib.Core.Bool.{Bool, cond, _&&_}
+use mathlib.Core.List.{List}
 use lib.Dec.{eqb}
+use lib.ListN.{length}
 use Rattle.csdl.specs.Search.{firstFrom}
 use Rattle.csdl.specs.Model.{Model, places}
+use Rattle.csdl.specs.Image.{modelIn}
+use Rattle.path_resolution.specs.Coded.{Coded}
+use Rattle.rules_segments.specs.Indexes.{IndexIn, AncestorsIn}
 use Rattle.csdl.specs.Form.{rule3, rule4, rule5, rule6, rule7}
 use Rattle.csdl.specs.Types.{rule8, rule9}
 use Rattle.csdl.specs.Properties.{rule10, rule11, rule12}
@@ -43,6 +48,13 @@ formed m = eqb (lowestPlace m rule3) 0 && eqb (lowestPlace m rule4) 0 && eqb (lo
 -- The rules from 3 on, below number n, are unbroken at every place.
 abbrev pub Clear : Model → ℕ → Type 0
 Clear m n = (k : ℕ) → 3 ≤ k → k < n → lowestPlace m (ruleNo k) ≡ 0
+
+-- What the rules from number n on read besides the image: from 11 on the index of the names and the ancestors of all types, from 15 on the codes.
+pub record Ready (image index codes ancestors : List ℕ) (n : ℕ) : Type 0 where
+  pub size : length codes ≡ 1024
+  pub index-made : 11 ≤ n → IndexIn image index
+  pub ancestors-made : 11 ≤ n → AncestorsIn image ancestors
+  pub codes-kept : 15 ≤ n → Coded (modelIn image) codes
 
 -- What an answer says that speaks of the rules below number n: an acceptance, that they are unbroken; a refusal, that it is the whole check's.
 unfoldable pub Judged : Model → ℕ → ModelAnswer → Type 0

@@ -1,24 +1,19 @@
 // The rules 3 to 19 of a model, each as the lowest place that breaks it: 0 for none, else the place plus 1. The tables that a rule reads are cut
 // from the image where it is asked.
 ghost use mathlib.Core.Path.{_≡_};
-ghost use mathlib.Core.List.{[]};
 ghost use Prim.Native.Nat.{ℕ, _≤_, _<_};
 ghost use lib.ListN.{length, getD};
-ghost use Rattle.csdl.specs.Search.{firstFrom, orElse};
-ghost use Rattle.csdl.specs.Tables.{propertyCount};
-ghost use Rattle.csdl.specs.Model.{modelOf};
+ghost use Rattle.csdl.specs.Search.{orElse};
 ghost use Rattle.csdl.specs.Image.{modelIn};
 ghost use Rattle.csdl.specs.Form.{rule3, rule4, rule5, rule6, rule7};
 ghost use Rattle.csdl.specs.Types.{rule8, rule9};
-ghost use Rattle.csdl.specs.Properties.{property11, rule10, rule11, rule12};
-ghost use Rattle.csdl.specs.Paths.{rule13, rule15, rule16, rule17, rule18, rule19};
+ghost use Rattle.csdl.specs.Properties.{rule10, rule11, rule12};
+ghost use Rattle.csdl.specs.Paths.{rule13, rule14, rule15, rule16, rule17, rule18, rule19};
 ghost use Rattle.path_resolution.specs.Coded.{Coded};
-ghost use Rattle.lookup.specs.Index.{Indexed};
 ghost use Rattle.model_rules.specs.Stages as stages;
-ghost use Rattle.model_rules.specs.Stages.{Clear, lowestPlace, ruleNo};
+ghost use Rattle.model_rules.specs.Stages.{Clear, Ready, lowestPlace, ruleNo};
 ghost use Rattle.model_image.specs.Laid.{Laid};
-ghost use Rattle.rules_segments.specs.Indexes.{IndexIn};
-ghost use Rattle.model_image.specs.Limits.{FewTypes, FewProperties};
+ghost use Rattle.rules_segments.specs.Indexes.{AncestorsIn, IndexIn};
 use model_image::layout::Layout;
 use model_image::layout::bindings_of;
 use model_image::layout::children_of;
@@ -31,7 +26,6 @@ use model_image::layout::schemas_of;
 use model_image::layout::segments_of;
 use model_image::layout::types_of;
 use model_image::numbers::place_found;
-use model_image::properties::property_count;
 use rules_bindings::bindings::first_19;
 use rules_bindings::children::first_child_18;
 use rules_bindings::children::first_property_18;
@@ -45,14 +39,13 @@ use rules_names::names::rule_5;
 use rules_names::repeats::first_child_7;
 use rules_names::repeats::first_type_7;
 use rules_names::schemas::first_6;
-use rules_redeclaration::property_11;
+use rules_redeclaration::first_11;
 use rules_required_cycle::required::first_12;
 use rules_segments::cover::first_13;
 use rules_segments::unresolved::first_14;
 use rules_types::properties::first_10;
 use rules_types::types::first_8;
 use rules_types::types::first_9;
-use type_hierarchy::ancestors::all_ancestors;
 
 // Rule 3, of every record.
 fn lowest_3(image: &[u8], at: Layout) -> u16
@@ -172,26 +165,9 @@ fn lowest_10(image: &[u8], at: Layout) -> u16
     )
 }
 
-// The first property that breaks rule 11: 0 for none, else its number plus 1.
-fn first_11(types: &[u8], properties: &[u8], names: &[u8], index: &[u16]) -> u16
-    requires { ⌜ FewTypes (now types) × FewProperties (now properties) × Indexed (now properties) (now names) (now index) ⌝ }
-    ensures { λ r. ⌜ r ≡ firstFrom (λ p. property11 (modelOf [] (now (types .entry)) (now (properties .entry)) [] [] [] [] [] (now (names .entry))) p) 0 (propertyCount (now (properties .entry))) ⌝ }
-{
-    let n = property_count(properties);
-    let ancestors = all_ancestors(types);
-    let mut p: u16 = 0;
-    while p < n {
-        if property_11(types, properties, names, index, &ancestors, p) {
-            return p + 1;
-        }
-        p += 1;
-    }
-    0
-}
-
-// Rule 11, of properties, which goes along the index.
-fn lowest_11(image: &[u8], at: Layout, index: &[u16]) -> u16
-    requires { ⌜ Laid (now image) at × IndexIn (now image) (now index) ⌝ }
+// Rule 11, of properties.
+fn lowest_11(image: &[u8], at: Layout, index: &[u16], ancestors: &[u64]) -> u16
+    requires { ⌜ Laid (now image) at × IndexIn (now image) (now index) × AncestorsIn (now image) (now ancestors) ⌝ }
     ensures { λ r. ⌜ r ≡ lowestPlace (modelIn (now (image .entry))) rule11 ⌝ }
 {
     place_found(
@@ -201,18 +177,19 @@ fn lowest_11(image: &[u8], at: Layout, index: &[u16]) -> u16
             properties_of(image, at),
             names_of(image, at),
             index,
+            ancestors,
         ),
     )
 }
 
 // Rule 12, of types.
-fn lowest_12(image: &[u8], at: Layout) -> u16
-    requires { ⌜ Laid (now image) at ⌝ }
+fn lowest_12(image: &[u8], at: Layout, ancestors: &[u64]) -> u16
+    requires { ⌜ Laid (now image) at × AncestorsIn (now image) (now ancestors) ⌝ }
     ensures { λ r. ⌜ r ≡ lowestPlace (modelIn (now (image .entry))) rule12 ⌝ }
 {
     place_found(
         at.types_place,
-        first_12(types_of(image, at), properties_of(image, at)),
+        first_12(types_of(image, at), properties_of(image, at), ancestors),
     )
 }
 
@@ -233,9 +210,22 @@ fn lowest_13(image: &[u8], at: Layout) -> u16
     )
 }
 
-// Rule 15, of keys, by the codes of all segments.
-fn lowest_15(image: &[u8], at: Layout, index: &[u16], codes: &[u32]) -> u16
-    requires { ⌜ Laid (now image) at × IndexIn (now image) (now index) × Coded (modelIn (now image)) (now codes) ⌝ }
+// Rule 14, of segments, which keeps their codes; nothing else changes in the table of codes.
+fn lowest_14(image: &[u8], at: Layout, index: &[u16], codes: &mut [u32], ancestors: &[u64]) -> u16
+    requires { ⌜ Laid (now image) at × IndexIn (now image) (now index) × AncestorsIn (now image) (now ancestors) × Clear (modelIn (now image)) 14 × (length (now codes) ≡ 1024) ⌝ }
+    ensures { λ r. ⌜ r ≡ lowestPlace (modelIn (now (image .entry))) rule14 ⌝ }
+    ensures { λ r. ⌜ Coded (modelIn (now (image .entry))) (now (codes .exit)) ⌝ }
+    ensures { λ r. ⌜ (length (now (codes .exit)) ≡ length (now (codes .entry))) × ((g : ℕ) → (modelIn (now (image .entry))) .segments ≤ g → getD (now (codes .exit)) g 0 ≡ getD (now (codes .entry)) g 0) ⌝ }
+{
+    place_found(
+        at.segments_place,
+        first_14(image, at, index, ancestors, codes),
+    )
+}
+
+// Rule 15, of keys.
+fn lowest_15(image: &[u8], at: Layout, index: &[u16], codes: &[u32], ancestors: &[u64]) -> u16
+    requires { ⌜ Laid (now image) at × IndexIn (now image) (now index) × Coded (modelIn (now image)) (now codes) × AncestorsIn (now image) (now ancestors) × Clear (modelIn (now image)) 15 ⌝ }
     ensures { λ r. ⌜ r ≡ lowestPlace (modelIn (now (image .entry))) rule15 ⌝ }
 {
     place_found(
@@ -244,10 +234,10 @@ fn lowest_15(image: &[u8], at: Layout, index: &[u16], codes: &[u32]) -> u16
             types_of(image, at),
             properties_of(image, at),
             keys_of(image, at),
-            segments_of(image, at),
             names_of(image, at),
             index,
             codes,
+            ancestors,
         ),
     )
 }
@@ -269,19 +259,24 @@ fn lowest_16(image: &[u8], at: Layout, codes: &[u32]) -> u16
 }
 
 // Rule 17, of properties.
-fn lowest_17(image: &[u8], at: Layout, codes: &[u32]) -> u16
-    requires { ⌜ Laid (now image) at × Coded (modelIn (now image)) (now codes) ⌝ }
+fn lowest_17(image: &[u8], at: Layout, codes: &[u32], ancestors: &[u64]) -> u16
+    requires { ⌜ Laid (now image) at × Coded (modelIn (now image)) (now codes) × AncestorsIn (now image) (now ancestors) ⌝ }
     ensures { λ r. ⌜ r ≡ lowestPlace (modelIn (now (image .entry))) rule17 ⌝ }
 {
     place_found(
         at.properties_place,
-        first_17(types_of(image, at), properties_of(image, at), codes),
+        first_17(
+            types_of(image, at),
+            properties_of(image, at),
+            codes,
+            ancestors,
+        ),
     )
 }
 
 // Rule 18, of properties and children.
-fn lowest_18(image: &[u8], at: Layout) -> u16
-    requires { ⌜ Laid (now image) at ⌝ }
+fn lowest_18(image: &[u8], at: Layout, ancestors: &[u64]) -> u16
+    requires { ⌜ Laid (now image) at × AncestorsIn (now image) (now ancestors) ⌝ }
     ensures { λ r. ⌜ r ≡ lowestPlace (modelIn (now (image .entry))) rule18 ⌝ }
 {
     let types = types_of(image, at);
@@ -289,18 +284,18 @@ fn lowest_18(image: &[u8], at: Layout) -> u16
     earlier(
         place_found(
             at.properties_place,
-            first_property_18(types, properties_of(image, at), keys),
+            first_property_18(types, properties_of(image, at), keys, ancestors),
         ),
         place_found(
             at.children_place,
-            first_child_18(types, keys, children_of(image, at)),
+            first_child_18(types, keys, children_of(image, at), ancestors),
         ),
     )
 }
 
 // Rule 19, of bindings.
-fn lowest_19(image: &[u8], at: Layout, codes: &[u32]) -> u16
-    requires { ⌜ Laid (now image) at × Coded (modelIn (now image)) (now codes) ⌝ }
+fn lowest_19(image: &[u8], at: Layout, index: &[u16], codes: &[u32], ancestors: &[u64]) -> u16
+    requires { ⌜ Laid (now image) at × IndexIn (now image) (now index) × Coded (modelIn (now image)) (now codes) × AncestorsIn (now image) (now ancestors) × Clear (modelIn (now image)) 19 ⌝ }
     ensures { λ r. ⌜ r ≡ lowestPlace (modelIn (now (image .entry))) rule19 ⌝ }
 {
     place_found(
@@ -310,17 +305,24 @@ fn lowest_19(image: &[u8], at: Layout, codes: &[u32]) -> u16
             properties_of(image, at),
             children_of(image, at),
             bindings_of(image, at),
-            segments_of(image, at),
-            names_of(image, at),
+            index,
             codes,
+            ancestors,
         ),
     )
 }
 
-// The lowest place that breaks the rule of the number, where the rules before it are unbroken: 0 for none, else the place plus 1. Rule 14 keeps the
-// codes of the segments, which the rules after it read; nothing else changes in the table of codes.
-pub fn lowest(image: &[u8], at: Layout, index: &[u16], codes: &mut [u32], stage: u16) -> u16
-    requires { ⌜ Laid (now image) at × IndexIn (now image) (now index) × (3 ≤ stage) × (stage < 20) × Clear (modelIn (now image)) stage × (15 ≤ stage → Coded (modelIn (now image)) (now codes)) × (length (now codes) ≡ 1024) ⌝ }
+// The lowest place that breaks the rule of the number, where the rules before it are unbroken: 0 for none, else the place plus 1. The rules from 11 on
+// read the index and the ancestors, those from 15 on the codes, which rule 14 keeps; nothing else changes in the table of codes.
+pub fn lowest(
+    image: &[u8],
+    at: Layout,
+    index: &[u16],
+    codes: &mut [u32],
+    ancestors: &[u64],
+    stage: u16,
+) -> u16
+    requires { ⌜ Laid (now image) at × (3 ≤ stage) × (stage < 20) × Clear (modelIn (now image)) stage × Ready (now image) (now index) (now codes) (now ancestors) stage ⌝ }
     ensures { λ r. ⌜ r ≡ lowestPlace (modelIn (now (image .entry))) (ruleNo stage) ⌝ }
     ensures { λ r. ⌜ (14 ≤ stage → Coded (modelIn (now (image .entry))) (now (codes .exit))) ⌝ }
     ensures { λ r. ⌜ ((stage ≡ 14 → ⊥) → now (codes .exit) ≡ now (codes .entry)) × (length (now (codes .exit)) ≡ length (now (codes .entry))) × ((g : ℕ) → (modelIn (now (image .entry))) .segments ≤ g → getD (now (codes .exit)) g 0 ≡ getD (now (codes .entry)) g 0) ⌝ }
@@ -334,14 +336,14 @@ pub fn lowest(image: &[u8], at: Layout, index: &[u16], codes: &mut [u32], stage:
         8 => lowest_8(image, at),
         9 => lowest_9(image, at),
         10 => lowest_10(image, at),
-        11 => lowest_11(image, at, index),
-        12 => lowest_12(image, at),
+        11 => lowest_11(image, at, index, ancestors),
+        12 => lowest_12(image, at, ancestors),
         13 => lowest_13(image, at),
-        14 => place_found(at.segments_place, first_14(image, at, index, codes)),
-        15 => lowest_15(image, at, index, codes),
+        14 => lowest_14(image, at, index, codes, ancestors),
+        15 => lowest_15(image, at, index, codes, ancestors),
         16 => lowest_16(image, at, codes),
-        17 => lowest_17(image, at, codes),
-        18 => lowest_18(image, at),
-        _ => lowest_19(image, at, codes),
+        17 => lowest_17(image, at, codes, ancestors),
+        18 => lowest_18(image, at, ancestors),
+        _ => lowest_19(image, at, index, codes, ancestors),
     }
 }

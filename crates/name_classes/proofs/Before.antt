@@ -1,6 +1,6 @@
 -- Laws of the order of byte strings. Assumes nothing.
 use Prim.Native.Nat.{ℕ, suc, _≤_, _<_}
-use mathlib.Core.Path.{_≡_, refl, sym, _∙_}
+use mathlib.Core.Path.{_≡_, refl, sym, ap, _∙_}
 use mathlib.Core.List.{List, [], _∷_}
 use mathlib.Core.Bool.{Bool, true, false, cond, false≢true}
 use native.Mathlib.Omega.{arith}
@@ -46,6 +46,10 @@ pub before-self : (a : List ℕ) → before a a ≡ false
 unfolding before
 before-self [] = refl
 before-self (x ∷ a) = equal-head x x (before a a) refl ∙ before-self a
+
+-- A string that comes before another is not the same.
+pub apart : (a b : List ℕ) → before a b ≡ true → a ≡ b → ⊥
+apart a b t q = false≢true (sym (before-self b) ∙ ap (λ (x : List ℕ). before x b) (sym q) ∙ t)
 
 -- Of two strings neither of which comes before the other.
 neither : (x y : ℕ) (r : Bool) → cond (ltb x y) true (cond (ltb y x) false r) ≡ false → (x < y → ⊥) × (x ≡ y → r ≡ false)

@@ -1,25 +1,11 @@
--- Sums and counts over numbers: one term more at the end, one put in, and the numbers below another counted. Assumes nothing.
+-- Sums and counts over numbers: one term put in, and the numbers below another counted. Assumes nothing.
 use Prim.Native.Nat.{ℕ, zero, suc, _+_, _≤_, _<_}
-use mathlib.Core.Path.{_≡_, refl, ap, ap₂, _∙_}
+use mathlib.Core.Path.{_≡_, refl, ap₂, _∙_}
 use mathlib.Core.Bool.{Bool, true, false}
 use native.Mathlib.Numerals.{add-one}
 use native.Mathlib.Omega.{arith}
-use Rattle.csdl.proofs.Logic.{below-or-not}
-use Rattle.csdl.specs.Search.{oneIf, sumFrom, countFrom}
-
-sum-suc : (f : ℕ → ℕ) (i n : ℕ) → sumFrom f i (suc n) ≡ sumFrom f i n + f (i + n)
-unfolding sumFrom
-sum-suc f i zero = let e : i + 0 ≡ i = omega arith in omega (arith, ap f e)
-sum-suc f i (suc n) =
-    let e : i + 1 + n ≡ i + suc n = omega arith in
-    let s : sumFrom f (i + 1) (suc n) ≡ sumFrom f (i + 1) n + f (i + suc n) = rw e at (sum-suc f (i + 1) n) in
-    omega arith
-
-count-suc : (test : ℕ → Bool) (n : ℕ) → countFrom test 0 (suc n) ≡ countFrom test 0 n + oneIf (test n)
-count-suc test n = let e : 0 + n ≡ n = omega arith in sum-suc (λ k. oneIf (test k)) 0 n ∙ ap (λ (x : ℕ). countFrom test 0 n + oneIf (test x)) e
-
-pub count-next : (test : ℕ → Bool) (n : ℕ) → countFrom test 0 (n + 1) ≡ countFrom test 0 n + oneIf (test n)
-count-next test n = rw (add-one n) (count-suc test n)
+use Rattle.csdl.proofs.Logic.{count-suc, below-or-not}
+use Rattle.csdl.specs.Search.{sumFrom, countFrom}
 
 sum-shift : (f g : ℕ → ℕ) (i n : ℕ) → ((j : ℕ) → i ≤ j → j < i + n → g (suc j) ≡ f j) → sumFrom g (i + 1) n ≡ sumFrom f i n
 unfolding sumFrom

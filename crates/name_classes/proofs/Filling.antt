@@ -1,23 +1,23 @@
 -- Properties put among the firsts one after the other. Assumes nothing.
-use Prim.Native.Nat.{ℕ, zero, suc, _+_, _-_, _≤_, _<_}
+use Prim.Native.Nat.{ℕ, suc, _+_, _-_, _≤_, _<_}
 use mathlib.Core.Path.{_≡_, refl, sym, ap, _∙_}
 use mathlib.Core.List.{List}
-use mathlib.Core.Bool.{Bool, true, false, cond, not, _&&_, false≢true}
+use mathlib.Core.Bool.{Bool, true, false, cond, _&&_, false≢true}
 use native.Mathlib.Nat.{zero-add}
 use native.Mathlib.Numerals.{add-one}
 use native.Mathlib.Omega.{arith}
 use lib.Dec.{ltb}
 use lib.ListN.{length, getD, set, length-set, replicate, length-replicate}
 use lib.Seq.{getD-set-same, getD-set-other}
-use borrow.Author.Tests.{ltb-true, ltb-false, lt-ltb, le-ltb}
+use borrow.Author.Tests.{ltb-true, lt-ltb, le-ltb}
 use Rattle.packed.specs.Bytes.{same}
 use Rattle.packed.proofs.Laws.{same-sound, same-complete}
 use Rattle.name_classes.specs.Order.{before}
 use Rattle.csdl.specs.Search.{oneIf, anyFrom, sumFrom, countFrom}
-use Rattle.csdl.proofs.Logic.{any-found, any-of, not-so, sum-same, below-or-not, equal-or-not}
+use Rattle.csdl.proofs.Logic.{any-found, any-of, not-so, sum-same, below-or-not, equal-or-not, count-next}
 use Rattle.name_classes.specs.Classes.{isFirst, Sorted, Stands, firstAt, Inserted, Ranked}
-use Rattle.name_classes.proofs.Before.{before-trans, before-self, before-neither}
-use Rattle.name_classes.proofs.Counting.{count-next, sum-insert}
+use Rattle.name_classes.proofs.Before.{before-trans, before-neither, apart}
+use Rattle.name_classes.proofs.Counting.{sum-insert}
 
 -- ---- the property at a place, as the code asks for it
 module _ (name : ℕ → List ℕ) (order : List ℕ) (firsts at : ℕ) (x : List ℕ) where
@@ -128,9 +128,6 @@ module _ (name : ℕ → List ℕ) where
           (λ y. before-trans (name p) (name (getD index at 0)) (name (getD index i 0)) (behind-here (omega (arith, l, m))) (f .sorted at i (omega (arith, l, y)) m))
 
       -- So no head has the new name, and no property before p.
-      apart : (a b : List ℕ) → before a b ≡ true → a ≡ b → ⊥
-      apart a b t q = false≢true (sym (before-self b) ∙ ap (λ (x : List ℕ). before x b) (sym q) ∙ t)
-
       fresh : (i : ℕ) → i < firsts → name (getD index i 0) ≡ name p → ⊥
       fresh i l q = below-or-not i at (λ m. apart _ _ (s .front i m) q) (λ m. apart _ _ (behind i m l) (sym q))
 

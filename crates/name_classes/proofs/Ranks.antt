@@ -1,24 +1,21 @@
 -- What the ranks of the names tell. Assumes nothing.
-use Prim.Native.Nat.{ℕ, zero, suc, _+_, _-_, _≤_, _<_}
+use Prim.Native.Nat.{ℕ, suc, _+_, _≤_, _<_}
 use mathlib.Core.Path.{_≡_, refl, sym, ap, _∙_}
 use mathlib.Core.List.{List}
-use mathlib.Core.Bool.{Bool, true, false, false≢true, _&&_, and-true}
+use mathlib.Core.Bool.{Bool, true, false, false≢true, and-true}
 use native.Mathlib.Omega.{arith}
 use lib.Dec.{eqb}
 use lib.ListN.{length, getD}
 use borrow.Author.Tests.{eq-eqb, eqb-true}
 use Rattle.packed.specs.Bytes.{same}
 use Rattle.packed.proofs.Laws.{same-sound, same-complete}
-use Rattle.csdl.specs.Search.{firstFrom, oneIf, countFrom}
+use Rattle.csdl.specs.Search.{firstFrom, oneIf}
 use Rattle.csdl.proofs.Logic.{not-so, first-is, none-first, sum-same, below-or-not, equal-or-not}
 use Rattle.name_classes.specs.Order.{before}
 use Rattle.name_classes.specs.Classes.{isFirst, nameCount, nameRank, Sorted, Stands, firstAt, Ranked}
-use Rattle.name_classes.proofs.Before.{before-trans, before-self, before-neither}
+use Rattle.name_classes.proofs.Before.{before-trans, before-self, apart}
 use Rattle.name_classes.proofs.Counting.{count-front}
 use Rattle.name_classes.proofs.Filling.{Found, at-found, at-none}
-
-apart : (a b : List ℕ) → before a b ≡ true → a ≡ b → ⊥
-apart a b t q = false≢true (sym (before-self b) ∙ ap (λ (x : List ℕ). before x b) (sym q) ∙ t)
 
 differ : (a b : List ℕ) → (a ≡ b → ⊥) → same a b ≡ false
 differ a b n = not-so _ (λ y. n (same-sound a b y))

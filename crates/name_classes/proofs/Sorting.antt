@@ -1,22 +1,15 @@
 -- First properties in the order of their names. Assumes nothing.
-use Prim.Native.Nat.{ℕ, zero, suc, _+_, _-_, _≤_, _<_}
-use mathlib.Core.Path.{_≡_, refl, sym, ap, _∙_}
+use Prim.Native.Nat.{ℕ, suc, _+_, _-_, _≤_, _<_}
+use mathlib.Core.Path.{_≡_, refl, sym, _∙_}
 use mathlib.Core.List.{List}
 use mathlib.Core.Bool.{Bool, true, false, false≢true}
-use mathlib.Core.Logic.{⊎-elim}
-use native.Mathlib.Nat.{eq-or-lt-of-le}
-use native.Mathlib.Numerals.{add-one}
 use native.Mathlib.Omega.{arith}
-use lib.Dec.{eqb, ltb}
 use lib.ListN.{length, getD, set, length-set}
 use lib.Seq.{getD-set-same, getD-set-other}
-use borrow.Author.Tests.{eqb-true, eqb-false, eq-eqb, ltb-true, ltb-false}
 use Rattle.csdl.proofs.Logic.{equal-or-not}
-use Rattle.packed.specs.Bytes.{same}
-use Rattle.packed.proofs.Laws.{same-sound, same-complete}
 use Rattle.name_classes.specs.Order.{before}
 use Rattle.name_classes.specs.Classes.{Sorted, Stands, Inserted}
-use Rattle.name_classes.proofs.Before.{before-trans, before-self, before-neither}
+use Rattle.name_classes.proofs.Before.{before-trans}
 
 -- ---- halving: what is known of the entries below `low` and from `high` on
 module _ (name : ℕ → List ℕ) (order : List ℕ) (firsts : ℕ) (sorted : Sorted name order firsts) (x : List ℕ) where

@@ -4,36 +4,29 @@ ghost use mathlib.Core.Path.{_≡_};
 ghost use Prim.Native.Nat.{ℕ, _+_, _≤_, _<_};
 ghost use lib.Dec.{eqb};
 ghost use lib.ListN.{length, getD};
-ghost use Rattle.packed.specs.Bytes.{part, same};
+ghost use Rattle.packed.specs.Bytes.{same};
 ghost use Rattle.csdl.specs.Search.{firstFrom};
 ghost use Rattle.csdl.specs.Tables.{propertyCount};
 ghost use Rattle.name_classes.specs.Order.{before};
 ghost use Rattle.name_classes.specs.Classes.{nameOf, nameCount, nameRank, Sorted, Stands, firstAt, Inserted, Ranked};
 ghost use Rattle.model_image.specs.Limits.{FewProperties};
 use crate::order::comes_before;
-use model_image::fields::text_of;
 use model_image::properties::property_count;
-use model_image::properties::property_name;
+use model_image::texts::property_text;
 use packed::same_bytes;
-
-fn text<'a>(properties: &[u8], names: &'a [u8], p: u16) -> &'a [u8]
-    ensures { λ r. ⌜ now r ≡ nameOf (now (properties .entry)) (now (names .entry)) p ⌝ }
-{
-    text_of(names, property_name(properties, p))
-}
 
 // Whether property p has a name that comes before the name.
 fn named_before(properties: &[u8], names: &[u8], p: u16, name: &[u8]) -> bool
     ensures { λ r. ⌜ r ≡ before (nameOf (now (properties .entry)) (now (names .entry)) p) (now (name .entry)) ⌝ }
 {
-    comes_before(text(properties, names, p), name)
+    comes_before(property_text(properties, names, p), name)
 }
 
 // Whether property p has the name.
 pub fn has_name(properties: &[u8], names: &[u8], p: u16, name: &[u8]) -> bool
     ensures { λ r. ⌜ r ≡ same (nameOf (now (properties .entry)) (now (names .entry)) p) (now (name .entry)) ⌝ }
 {
-    same_bytes(text(properties, names, p), name)
+    same_bytes(property_text(properties, names, p), name)
 }
 
 // Where a name stands among the `firsts` entries of the order.
@@ -113,7 +106,7 @@ pub fn ranked(properties: &[u8], names: &[u8]) -> [u16; 1793]
     let mut firsts: u16 = 0;
     let mut p: u16 = 0;
     while p < n {
-        let name = text(properties, names, p);
+        let name = property_text(properties, names, p);
         let at = position(properties, names, &index, firsts, name);
         let first = first_at(properties, names, &index, firsts, at, name);
         if first == 0 {

@@ -8,9 +8,9 @@ use native.Mathlib.Numerals.{add-one}
 use native.Mathlib.Omega.{arith}
 use lib.Dec.{eqb, ltb, eqb·zero-suc, eqb·suc-zero, eqb·suc-suc}
 use lib.ListN.{length, getD, take, drop, length-drop, drop-of-length-le, List·getD-eq-default}
-use lib.Seq.{getD-take, getD-drop, drop-cons, take-all, take-nil}
+use lib.Seq.{drop-cons, take-all, take-nil}
 use lib.Pow.{mod-pow-add, pow-add, shr-shr, shl-exact, high, low}
-use borrow.Author.Tests.{eqb-true, eqb-false, eq-eqb, ne-eqb, ltb-true, ltb-false}
+use borrow.Author.Tests.{eqb-true, eq-eqb, ne-eqb, ltb-true, ltb-false}
 use Rattle.packed.specs.Field.{bit, fieldOf}
 use Rattle.packed.specs.Bytes.{same, commonStart, part, highByte, lowByte}
 
@@ -242,12 +242,6 @@ common-more a b i (suc n) h k e =
     let z : i + suc n ≡ i + 1 + n = omega arith in
     let p = both _ _ (sym (same-first a b i n (omega arith) (omega arith)) ∙ e) in
     rw (common-step a b i (omega arith) (omega arith) (eqb-true _ _ (p .0)), z, common-more a b (i + 1) n (omega arith) (omega arith) (p .1)) (omega arith)
-
--- eight bytes, as the code reads them
-pub field-64 : (s : List ℕ) (k x y : ℕ) → x ≡ fieldOf s (8 * k) 32 → y ≡ fieldOf s (8 * (k + 4)) 32 → x * 2 ^ 32 + y ≡ fieldOf s (8 * k) 64
-field-64 s k x y p q =
-    let o : 8 * k + 32 ≡ 8 * (k + 4) = omega arith in
-    sym (rw (field-add s (8 * k) 32 32, o, ← p, ← q))
 
 -- ---- the bytes of a number
 pub two-bytes : (n : ℕ) → highByte n * 256 + lowByte n ≡ n

@@ -55,7 +55,7 @@ fn four_in(s: &[u8], i: usize) -> u64
 }
 
 // The 32 bits from byte i on.
-fn word_at(s: &[u8], i: usize) -> u64
+pub fn word_at(s: &[u8], i: usize) -> u64
     requires { ⌜ i < 18446744073709551612 ⌝ }
     ensures { λ r. ⌜ r ≡ fieldOf (now (s .entry)) (8 * i) 32 ⌝ }
 {
@@ -177,25 +177,6 @@ pub fn flag(s: &[u8], off: u32) -> bool
     ensures { λ r. ⌜ r ≡ flagOf (now (s .entry)) off ⌝ }
 {
     field(s, off, 1) == 1
-}
-
-// The 64 bits from byte i on, where there are as many.
-fn eight_in(s: &[u8], i: usize) -> u64
-    requires { ⌜ i + 8 ≤ length (now s) ⌝ }
-    ensures { λ r. ⌜ r ≡ fieldOf (now (s .entry)) (8 * i) 64 ⌝ }
-{
-    joined(four_in(s, i), four_in(s, i + 4), 32, 32)
-}
-
-// The 64 bits from byte i on.
-pub fn eight_at(s: &[u8], i: usize) -> u64
-    requires { ⌜ i < 18446744073709551608 ⌝ }
-    ensures { λ r. ⌜ r ≡ fieldOf (now (s .entry)) (8 * i) 64 ⌝ }
-{
-    if i + 8 <= s.len() {
-        return eight_in(s, i);
-    }
-    joined(word_at(s, i), word_at(s, i + 4), 32, 32)
 }
 
 // Whether two strings have the same two bytes from byte i on; the same four; the same eight. All bytes are compared, so that the compiler takes

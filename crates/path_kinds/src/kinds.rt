@@ -84,7 +84,7 @@ pub fn path_of(
 }
 
 // The type reference at which the path of the kind that record r holds starts.
-pub fn start_of(
+pub(crate) fn start_of(
     properties: &[u8],
     keys: &[u8],
     constraints: &[u8],

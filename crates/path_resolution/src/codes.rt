@@ -2,7 +2,7 @@
 ghost use mathlib.Core.Path.{_≡_};
 ghost use mathlib.Core.List.{[]};
 ghost use Prim.Native.Nat.{_≤_, _<_};
-ghost use lib.ListN.{length, getD};
+ghost use lib.ListN.{getD};
 ghost use Rattle.csdl.specs.Search.{anyFrom};
 ghost use Rattle.csdl.specs.Model.{modelOf};
 ghost use Rattle.path_resolution.specs.Resolution.{castCode, codeEnd, lastCode, lastName};
@@ -32,8 +32,8 @@ pub fn run_of(codes: &[u32], first: u16, n: u16) -> [u32; 16]
 }
 
 // Whether one of the first `count` codes is a cast.
-pub fn has_cast(codes: &[u32], count: u16) -> bool
-    requires { ⌜ (count < 16) × (length (now codes) ≡ 16) ⌝ }
+pub fn has_cast(codes: &[u32; 16], count: u16) -> bool
+    requires { ⌜ count < 16 ⌝ }
     ensures { λ r. ⌜ r ≡ anyFrom (λ k. castCode (getD (now (codes .entry)) k 0)) 0 count ⌝ }
 {
     let mut k: u16 = 0;
@@ -47,8 +47,8 @@ pub fn has_cast(codes: &[u32], count: u16) -> bool
 }
 
 // The last of the first `count` codes; that of nothing where there is none.
-pub fn last_code(codes: &[u32], count: u16) -> u32
-    requires { ⌜ (count < 16) × (length (now codes) ≡ 16) ⌝ }
+pub fn last_code(codes: &[u32; 16], count: u16) -> u32
+    requires { ⌜ count < 16 ⌝ }
     ensures { λ r. ⌜ r ≡ lastCode (now (codes .entry)) count ⌝ }
 {
     if count == 0 {
@@ -58,8 +58,8 @@ pub fn last_code(codes: &[u32], count: u16) -> u32
 }
 
 // The type reference at the end of a path with the first n codes, from type `start` on.
-pub fn end_of(properties: &[u8], codes: &[u32], start: u16, n: u16) -> u32
-    requires { ⌜ (n < 16) × (length (now codes) ≡ 16) ⌝ }
+pub fn end_of(properties: &[u8], codes: &[u32; 16], start: u16, n: u16) -> u32
+    requires { ⌜ n < 16 ⌝ }
     ensures { λ r. ⌜ r ≡ codeEnd (modelOf [] [] (now (properties .entry)) [] [] [] [] [] []) start (now (codes .entry)) n ⌝ }
 {
     if n == 0 {
@@ -73,8 +73,8 @@ pub fn end_of(properties: &[u8], codes: &[u32], start: u16, n: u16) -> u32
 }
 
 // Where the last name of the first `count` codes stands: 0 for none, else its number plus 1.
-pub fn last_name(codes: &[u32], count: u16) -> u16
-    requires { ⌜ (count < 16) × (length (now codes) ≡ 16) ⌝ }
+pub fn last_name(codes: &[u32; 16], count: u16) -> u16
+    requires { ⌜ count < 16 ⌝ }
     ensures { λ r. ⌜ (r ≡ lastName (now (codes .entry)) count) × (r ≤ count) ⌝ }
 {
     let mut n: u16 = count;

@@ -4,7 +4,7 @@ ghost use mathlib.Core.List.{[]};
 ghost use mathlib.Core.Bool.{cond, not, _&&_};
 ghost use Prim.Native.Nat.{_<_, _-_, _+_};
 ghost use lib.Dec.{eqb};
-ghost use Rattle.type_hierarchy.specs.AncestorSets.{setsOf};
+ghost use Rattle.type_hierarchy.specs.AncestorSets.{ancestorsOf};
 ghost use Rattle.lookup.specs.Index.{Indexed};
 ghost use Rattle.csdl.specs.Model.{modelOf};
 ghost use Rattle.csdl.specs.Find as find;
@@ -17,11 +17,11 @@ ghost use Rattle.path_resolution.specs.Resolution.{ResolvedTo, prefix, c
 ghost use Rattle.model_image.specs.Limits.{FewProperties, FewTypes};
 use crate::wide::ancestor_or_self;
 use crate::wide::structured;
-use lookup::names::find_on;
-use lookup::texts::segment_text;
+use lookup::names::find;
 use model_image::properties::property_type_ref;
 use model_image::segments::segment_cast;
 use model_image::segments::segment_type;
+use model_image::texts::segment_text;
 
 // Where a path stands: a type reference, and the segment to take.
 struct Here {
@@ -37,8 +37,8 @@ struct Move {
     to: u32,
 }
 
-// A path to resolve: the type reference at which it starts, its first segment, and how many.
-pub struct Way {
+// A path and the type reference at which it starts: its first segment, and how many.
+pub struct PathFrom {
     pub start: u16,
     pub first: u16,
     pub count: u16,
@@ -53,12 +53,12 @@ pub struct Resolved {
 }
 
 // Whether a cast to c resolves at t.
-fn cast_resolves(types: &[u8], t: u32, c: u32) -> bool
-    requires { ⌜ FewTypes (now types) ⌝ }
+fn cast_resolves(types: &[u8], ancestors: &[u64], t: u32, c: u32) -> bool
+    requires { ⌜ FewTypes (now types) × (now ancestors ≡ ancestorsOf (now types)) ⌝ }
     ensures { λ r. ⌜ r ≡ (find.structured (modelOf [] (now (types .entry)) [] [] [] [] [] [] []) c && find.ancestorOrSelf (modelOf [] (now (types .entry)) [] [] [] [] [] [] []) t c) ⌝ }
 {
     if structured(types, c) {
-        return ancestor_or_self(types, t, c);
+        return ancestor_or_self(types, ancestors, t, c);
     }
     false
 }
@@ -97,7 +97,7 @@ fn move_at(
     ancestors: &[u64],
     here: Here,
 ) -> Move
-    requires { ⌜ FewTypes (now types) × FewProperties (now properties) × Indexed (now properties) (now names) (now index) × (now ancestors ≡ setsOf (now types)) ⌝ }
+    requires { ⌜ FewTypes (now types) × FewProperties (now properties) × Indexed (now properties) (now names) (now index) × (now ancestors ≡ ancestorsOf (now types)) ⌝ }
     ensures { λ r. ⌜ r .ok ≡ resolvesAt (modelOf [] (now (types .entry)) (now (properties .entry)) [] [] [] [] (now (segments .entry)) (now (names .entry))) (here .t) (segmentAt (modelOf [] (now (types .entry)) (now (properties .entry)) [] [] [] [] (now (segments .entry)) (now (names .entry))) (here .g)) ⌝ }
     ensures { λ r. ⌜ r .code ≡ stepCode (stepAt (modelOf [] (now (types .entry)) (now (properties .entry)) [] [] [] [] (now (segments .entry)) (now (names .entry))) (here .t) (segmentAt (modelOf [] (now (types .entry)) (now (properties .entry)) [] [] [] [] (now (segments .entry)) (now (names .entry))) (here .g))) ⌝ }
     ensures { λ r. ⌜ r .to ≡ movesTo (modelOf [] (now (types .entry)) (now (properties .entry)) [] [] [] [] (now (segments .entry)) (now (names .entry))) (here .t) (segmentAt (modelOf [] (now (types .entry)) (now (properties .entry)) [] [] [] [] (now (segments .entry)) (now (names .entry))) (here .g)) ⌝ }
@@ -106,14 +106,14 @@ fn move_at(
     let g = here.g;
     if segment_cast(segments, g) {
         let c = segment_type(segments, g);
-        let ok = cast_resolves(types, t, c);
+        let ok = cast_resolves(types, ancestors, t, c);
         return Move {
             ok,
             code: 32768 + c,
             to: c,
         };
     }
-    let found = find_on(
+    let found = find(
         types,
         properties,
         names,
@@ -144,17 +144,17 @@ pub fn resolve_path(
     names: &[u8],
     index: &[u16],
     ancestors: &[u64],
-    way: Way,
+    path: PathFrom,
 ) -> Resolved
-    requires { ⌜ FewTypes (now types) × FewProperties (now properties) × (way .first < 2048) × (way .count < 16) × Indexed (now properties) (now names) (now index) × (now ancestors ≡ setsOf (now types)) ⌝ }
-    ensures { λ r. ⌜ ResolvedTo (modelOf [] (now (types .entry)) (now (properties .entry)) [] [] [] [] (now (segments .entry)) (now (names .entry))) (way .start) (way .first) (way .count) (r .codes) (r .taken) (r .end) ⌝ }
-    ensures { λ r. ⌜ (r .codes ≡ codesTo (modelOf [] (now (types .entry)) (now (properties .entry)) [] [] [] [] (now (segments .entry)) (now (names .entry))) (way .start) (way .first) (way .count)) × (r .taken ≡ resolvedCount (modelOf [] (now (types .entry)) (now (properties .entry)) [] [] [] [] (now (segments .entry)) (now (names .entry))) (way .start) (way .first) (way .count)) × (r .end ≡ endOf (modelOf [] (now (types .entry)) (now (properties .entry)) [] [] [] [] (now (segments .entry)) (now (names .entry))) (way .start) (prefix (modelOf [] (now (types .entry)) (now (properties .entry)) [] [] [] [] (now (segments .entry)) (now (names .entry))) (way .first) (way .count))) ⌝ }
+    requires { ⌜ FewTypes (now types) × FewProperties (now properties) × (path .first < 2048) × (path .count < 16) × Indexed (now properties) (now names) (now index) × (now ancestors ≡ ancestorsOf (now types)) ⌝ }
+    ensures { λ r. ⌜ ResolvedTo (modelOf [] (now (types .entry)) (now (properties .entry)) [] [] [] [] (now (segments .entry)) (now (names .entry))) (path .start) (path .first) (path .count) (r .codes) (r .taken) (r .end) ⌝ }
+    ensures { λ r. ⌜ (r .codes ≡ codesTo (modelOf [] (now (types .entry)) (now (properties .entry)) [] [] [] [] (now (segments .entry)) (now (names .entry))) (path .start) (path .first) (path .count)) × (r .taken ≡ resolvedCount (modelOf [] (now (types .entry)) (now (properties .entry)) [] [] [] [] (now (segments .entry)) (now (names .entry))) (path .start) (path .first) (path .count)) × (r .end ≡ endOf (modelOf [] (now (types .entry)) (now (properties .entry)) [] [] [] [] (now (segments .entry)) (now (names .entry))) (path .start) (prefix (modelOf [] (now (types .entry)) (now (properties .entry)) [] [] [] [] (now (segments .entry)) (now (names .entry))) (path .first) (path .count))) ⌝ }
 {
-    let first = way.first;
-    let count = way.count;
+    let first = path.first;
+    let count = path.count;
     let mut codes = [0u32; 16];
     let mut taken: u16 = 0;
-    let mut t: u32 = way.start as u32;
+    let mut t: u32 = path.start as u32;
     let mut k: u16 = 0;
     while k < count {
         let at = Here { t, g: first + k };

@@ -2,7 +2,6 @@
 ghost use mathlib.Core.Path.{_≡_};
 ghost use mathlib.Core.List.{[]};
 ghost use Prim.Native.Nat.{_<_, _-_};
-ghost use lib.ListN.{length};
 ghost use Rattle.csdl.specs.Model.{modelOf};
 ghost use Rattle.csdl.specs.Paths.{keyCode, keyType, keyStep, keyEnd, constraintStep, nonContainment, targetStep};
 ghost use Rattle.path_resolution.specs.Resolution.{isCode, numberOf};
@@ -135,8 +134,8 @@ pub fn number_of(code: u32) -> u16
 }
 
 // Whether one of the first n codes is that of a property that passes the test.
-pub fn any_code(types: &[u8], properties: &[u8], test: StepTest, codes: &[u32], n: u16) -> bool
-    requires { ⌜ FewTypes (now types) × (length (now codes) ≡ 16) × (n < 16) ⌝ }
+pub fn any_code(types: &[u8], properties: &[u8], test: StepTest, codes: &[u32; 16], n: u16) -> bool
+    requires { ⌜ FewTypes (now types) × (n < 16) ⌝ }
     ensures { λ r. ⌜ r ≡ anyCode (modelOf [] (now (types .entry)) (now (properties .entry)) [] [] [] [] [] []) test (now (codes .entry)) n ⌝ }
 {
     let mut k: u16 = 0;
@@ -155,10 +154,10 @@ pub fn step_or_end(
     properties: &[u8],
     step: StepTest,
     end: StepTest,
-    codes: &[u32],
+    codes: &[u32; 16],
     n: u16,
 ) -> bool
-    requires { ⌜ FewTypes (now types) × (length (now codes) ≡ 16) × (n < 16) ⌝ }
+    requires { ⌜ FewTypes (now types) × (n < 16) ⌝ }
     ensures { λ r. ⌜ r ≡ stepOrEnd (modelOf [] (now (types .entry)) (now (properties .entry)) [] [] [] [] [] []) step end (now (codes .entry)) n ⌝ }
 {
     any_code(types, properties, step, codes, less_one(n))

@@ -1,4 +1,3 @@
-pub mod PathFingerprints
 pub mod Comparing
 pub mod LastName
 pub mod PartnerPaths

@@ -7,14 +7,14 @@ use Rattle.csdl.specs.declared.Run.{Run}
 use Rattle.csdl.specs.Tables.{childType, bindingChild, bindingPath, bindingTarget, bindingTargetPath}
 use Rattle.csdl.specs.Model.{Model, modelOf}
 use Rattle.csdl.specs.Find.{ancestorOrSelf, ancestor, ofKind, complexStep, containStep}
-use Rattle.csdl.specs.Path.{segmentAt, pathOf, startOf}
+use Rattle.csdl.specs.Path.{pathOf, startOf}
 use Rattle.csdl.specs.declared.PathKind.the-variants.{Binding, Target}
-use Rattle.csdl.specs.Paths.{nonContainment, targetStep, binding19d, binding19e}
+use Rattle.csdl.specs.Paths.{nonContainment, targetStep, binding19e}
 use Rattle.path_resolution.specs.Resolution.{codeTo, codeEnd}
 use Rattle.path_resolution.specs.Coded.{runOf}
 use Rattle.path_steps.specs.Steps.{stepTest}
 use Rattle.rules_bindings.specs.Runs.{runEnd}
-use Rattle.rules_bindings.specs.Bindings.{bindingCodes, targetCodes, endsApart, pathFails, targetFails, bindingMisled, bindingCoded}
+use Rattle.rules_bindings.specs.Bindings.{bindingCodes, againBound, bindingAgain, targetCodes, endsApart, pathFails, targetFails, bindingPathsFail, bindingCoded}
 
 or-last : (a d e t x : Bool) → (a || e || t || x || d) ≡ (a || d || e || t || x)
 or-last true d e t x = refl
@@ -27,15 +27,17 @@ or-last false false false true x = refl
 or-last false false false false true = refl
 or-last false false false false false = refl
 
-both : (m : Model) (codes : List ℕ) (b : ℕ) → (bindingMisled m codes b || binding19d m b) ≡ bindingCoded m codes b
-unfolding bindingMisled bindingCoded
-both m codes b =
-    or-last (pathFails m codes b) (binding19d m b) (binding19e m b) (targetFails m codes b) (endsApart m (runEnd m codes Binding b) (runEnd m codes Target b))
+both : (m : Model) (index codes : List ℕ) (b : ℕ) → (bindingPathsFail m codes b || bindingAgain m index codes b) ≡ bindingCoded m index codes b
+unfolding bindingPathsFail bindingCoded
+both m index codes b =
+    or-last (pathFails m codes b) (bindingAgain m index codes b) (binding19e m b) (targetFails m codes b) (endsApart m (runEnd m codes Binding b) (runEnd m codes Target b))
 
-module _ (ty pr ch bi sg nm codes : List ℕ) (b : ℕ) where
-  pub binding-split : (bindingMisled (modelOf [] ty pr [] [] ch bi [] []) codes b || binding19d (modelOf [] [] [] [] [] [] bi sg nm) b) ≡ bindingCoded (modelOf [] ty pr [] [] ch bi sg nm) codes b
-  unfolding modelOf bindingMisled pathOf startOf codeEnd codeTo bindingCodes targetCodes endsApart nonContainment stepTest targetStep complexStep containStep ofKind ancestorOrSelf ancestor binding19d segmentAt
-  binding-split = both (modelOf [] ty pr [] [] ch bi sg nm) codes b
+module _ (ty pr ch bi index codes : List ℕ) (b : ℕ) where
+  pub binding-split :
+      (bindingPathsFail (modelOf [] ty pr [] [] ch bi [] []) codes b || bindingAgain (modelOf [] [] [] [] [] [] bi [] []) index codes b)
+      ≡ bindingCoded (modelOf [] ty pr [] [] ch bi [] []) index codes b
+  unfolding modelOf bindingAgain againBound
+  binding-split = both (modelOf [] ty pr [] [] ch bi [] []) index codes b
 
 module _ (ty pr ch bi codes : List ℕ) (b : ℕ) where
   -- the codes of a path, and its end
@@ -45,11 +47,11 @@ module _ (ty pr ch bi codes : List ℕ) (b : ℕ) where
   abbrev pub endAt : ℕ → Run → ℕ
   endAt child r = codeEnd (modelOf [] [] pr [] [] [] [] [] []) (childType ch child) (runAt r) (r .count)
 
-  pub misled-split :
+  pub paths-split :
       (bindingCodes (modelOf [] ty pr [] [] [] [] [] []) (runAt (bindingPath bi b)) (bindingPath bi b .count)
       || binding19e (modelOf [] [] [] [] [] ch bi [] []) b
       || targetCodes (modelOf [] ty pr [] [] [] [] [] []) (runAt (bindingTargetPath bi b)) (bindingTargetPath bi b .count)
       || endsApart (modelOf [] ty [] [] [] [] [] [] []) (endAt (bindingChild bi b) (bindingPath bi b)) (endAt (bindingTarget bi b) (bindingTargetPath bi b)))
-      ≡ bindingMisled (modelOf [] ty pr [] [] ch bi [] []) codes b
-  unfolding modelOf bindingMisled pathOf startOf codeEnd codeTo bindingCodes targetCodes endsApart nonContainment stepTest targetStep complexStep containStep ofKind ancestorOrSelf ancestor
-  misled-split = refl
+      ≡ bindingPathsFail (modelOf [] ty pr [] [] ch bi [] []) codes b
+  unfolding modelOf bindingPathsFail pathOf startOf codeEnd codeTo bindingCodes targetCodes endsApart nonContainment stepTest targetStep complexStep containStep ofKind ancestorOrSelf ancestor
+  paths-split = refl

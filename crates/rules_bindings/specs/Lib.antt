@@ -1,4 +1,3 @@
-pub mod Digests
 pub mod Runs
 pub mod Partners
 pub mod Bindings

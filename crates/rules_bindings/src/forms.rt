@@ -2,8 +2,8 @@
 ghost use mathlib.Core.Path.{_≡_};
 ghost use mathlib.Core.List.{[]};
 ghost use Prim.Native.Nat.{_<_};
-ghost use lib.ListN.{length};
 ghost use Rattle.csdl.specs.Model.{modelOf};
+ghost use Rattle.type_hierarchy.specs.AncestorSets.{ancestorsOf};
 ghost use Rattle.rules_bindings.specs.Bindings.{bindingCodes, targetCodes, endsApart};
 ghost use Rattle.model_image.specs.Limits.{FewTypes};
 use path_resolution::codes::has_cast;
@@ -15,8 +15,8 @@ use path_steps::code_test;
 use path_steps::step_or_end;
 
 // Whether the path has no name, its last name is no navigation property without containment, or an earlier name is one (19a to 19c).
-pub fn binding_codes(types: &[u8], properties: &[u8], codes: &[u32], n: u16) -> bool
-    requires { ⌜ FewTypes (now types) × (length (now codes) ≡ 16) × (n < 16) ⌝ }
+pub(crate) fn binding_codes(types: &[u8], properties: &[u8], codes: &[u32; 16], n: u16) -> bool
+    requires { ⌜ FewTypes (now types) × (n < 16) ⌝ }
     ensures { λ r. ⌜ r ≡ bindingCodes (modelOf [] (now (types .entry)) (now (properties .entry)) [] [] [] [] [] []) (now (codes .entry)) n ⌝ }
 {
     let last = last_name(codes, n);
@@ -34,8 +34,8 @@ pub fn binding_codes(types: &[u8], properties: &[u8], codes: &[u32], n: u16) -> 
 }
 
 // Whether a target path has a cast, or a step that it may not have (19f, 19g).
-pub fn target_codes(types: &[u8], properties: &[u8], codes: &[u32], n: u16) -> bool
-    requires { ⌜ FewTypes (now types) × (length (now codes) ≡ 16) × (n < 16) ⌝ }
+pub(crate) fn target_codes(types: &[u8], properties: &[u8], codes: &[u32; 16], n: u16) -> bool
+    requires { ⌜ FewTypes (now types) × (n < 16) ⌝ }
     ensures { λ r. ⌜ r ≡ targetCodes (modelOf [] (now (types .entry)) (now (properties .entry)) [] [] [] [] [] []) (now (codes .entry)) n ⌝ }
 {
     has_cast(codes, n)
@@ -50,9 +50,9 @@ pub fn target_codes(types: &[u8], properties: &[u8], codes: &[u32], n: u16) -> b
 }
 
 // Whether neither of two types is at the other (19h).
-pub fn ends_apart(types: &[u8], a: u32, b: u32) -> bool
-    requires { ⌜ FewTypes (now types) ⌝ }
+pub(crate) fn ends_apart(types: &[u8], ancestors: &[u64], a: u32, b: u32) -> bool
+    requires { ⌜ FewTypes (now types) × (now ancestors ≡ ancestorsOf (now types)) ⌝ }
     ensures { λ r. ⌜ r ≡ endsApart (modelOf [] (now (types .entry)) [] [] [] [] [] [] []) a b ⌝ }
 {
-    !ancestor_or_self(types, a, b) & !ancestor_or_self(types, b, a)
+    !ancestor_or_self(types, ancestors, a, b) & !ancestor_or_self(types, ancestors, b, a)
 }

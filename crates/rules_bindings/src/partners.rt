@@ -3,13 +3,13 @@ ghost use mathlib.Core.Path.{_≡_};
 ghost use mathlib.Core.List.{[]};
 ghost use mathlib.Core.Bool.{not, _&&_};
 ghost use Prim.Native.Nat.{_<_};
-ghost use lib.ListN.{length};
 ghost use lib.Dec.{eqb};
 ghost use Rattle.csdl.specs.Search.{firstFrom};
 ghost use Rattle.csdl.specs.Tables.{propertyCount, propertyOwner, propertyPartner};
 ghost use Rattle.csdl.specs.Model.{modelOf, present};
 ghost use Rattle.csdl.specs.Find.{ancestorOrSelf};
 ghost use Rattle.type_hierarchy.specs.Sets.{Members};
+ghost use Rattle.type_hierarchy.specs.AncestorSets.{ancestorsOf};
 ghost use Rattle.rules_bindings.specs.Partners.{partnerLast, partnerCodes, otherPartner, containedPartner, otherContains, sharedContainment, partnerEnds, partnerCoded};
 ghost use Rattle.model_image.specs.Limits.{FewProperties, FewTypes};
 use model_image::numbers::less_one;
@@ -25,8 +25,8 @@ use path_steps::StepTest;
 use path_steps::any_code;
 use path_steps::code_test;
 use path_steps::number_of;
+use type_hierarchy::ancestors::ancestor_or_self;
 use type_hierarchy::ancestors::with_ancestors;
-use type_hierarchy::bases::ancestor_or_self;
 use type_hierarchy::bases::top;
 use type_hierarchy::type_sets::in_set;
 
@@ -40,8 +40,8 @@ fn partner_code(properties: &[u8], codes: &[u32], p: u16) -> u32
 }
 
 // Whether the partner path ends in no navigation property, or goes through one (17a, 17b).
-fn partner_codes(types: &[u8], properties: &[u8], codes: &[u32], n: u16) -> bool
-    requires { ⌜ FewTypes (now types) × (length (now codes) ≡ 16) × (n < 16) ⌝ }
+fn partner_codes(types: &[u8], properties: &[u8], codes: &[u32; 16], n: u16) -> bool
+    requires { ⌜ FewTypes (now types) × (n < 16) ⌝ }
     ensures { λ r. ⌜ r ≡ partnerCodes (modelOf [] (now (types .entry)) (now (properties .entry)) [] [] [] [] [] []) (now (codes .entry)) n ⌝ }
 {
     !code_test(types, properties, StepTest::Navigates, last_code(codes, n))
@@ -109,14 +109,21 @@ fn other_contained(
 }
 
 // Whether q contains, as does the partner of another property of p's owner or an ancestor (17f).
-fn shared_containment(types: &[u8], properties: &[u8], codes: &[u32], p: u16, q: u16) -> bool
-    requires { ⌜ FewTypes (now types) × FewProperties (now properties) ⌝ }
+fn shared_containment(
+    types: &[u8],
+    properties: &[u8],
+    codes: &[u32],
+    ancestors: &[u64],
+    p: u16,
+    q: u16,
+) -> bool
+    requires { ⌜ FewTypes (now types) × FewProperties (now properties) × (now ancestors ≡ ancestorsOf (now types)) ⌝ }
     ensures { λ r. ⌜ r ≡ sharedContainment (modelOf [] (now (types .entry)) (now (properties .entry)) [] [] [] [] [] []) (now (codes .entry)) p q ⌝ }
 {
     if !property_contains(properties, q) {
         return false;
     }
-    let owners = with_ancestors(types, property_owner(properties, p));
+    let owners = with_ancestors(types, ancestors, property_owner(properties, p));
     let n = property_count(properties);
     let mut x: u16 = 0;
     while x < n {
@@ -129,23 +136,31 @@ fn shared_containment(types: &[u8], properties: &[u8], codes: &[u32], p: u16, q:
 }
 
 // Whether p and the property q that its partner path leads to break rule 17 (17c to 17f).
-fn partner_ends(types: &[u8], properties: &[u8], codes: &[u32], p: u16, q: u16) -> bool
-    requires { ⌜ FewTypes (now types) × FewProperties (now properties) ⌝ }
+fn partner_ends(
+    types: &[u8],
+    properties: &[u8],
+    codes: &[u32],
+    ancestors: &[u64],
+    p: u16,
+    q: u16,
+) -> bool
+    requires { ⌜ FewTypes (now types) × FewProperties (now properties) × (now ancestors ≡ ancestorsOf (now types)) ⌝ }
     ensures { λ r. ⌜ r ≡ partnerEnds (modelOf [] (now (types .entry)) (now (properties .entry)) [] [] [] [] [] []) (now (codes .entry)) p q ⌝ }
 {
     !ancestor_or_self(
         types,
+        ancestors,
         property_type_ref(properties, q),
         property_owner(properties, p),
     )
         | other_partner(properties, codes, p, q)
         | contained_partner(types, properties, p, q)
-        | shared_containment(types, properties, codes, p, q)
+        | shared_containment(types, properties, codes, ancestors, p, q)
 }
 
 // Whether property p breaks rule 17, out of the codes of all segments.
-fn property_17(types: &[u8], properties: &[u8], codes: &[u32], p: u16) -> bool
-    requires { ⌜ FewTypes (now types) × FewProperties (now properties) ⌝ }
+fn property_17(types: &[u8], properties: &[u8], codes: &[u32], ancestors: &[u64], p: u16) -> bool
+    requires { ⌜ FewTypes (now types) × FewProperties (now properties) × (now ancestors ≡ ancestorsOf (now types)) ⌝ }
     ensures { λ r. ⌜ r ≡ partnerCoded (modelOf [] (now (types .entry)) (now (properties .entry)) [] [] [] [] [] []) (now (codes .entry)) p ⌝ }
 {
     let path = property_partner(properties, p);
@@ -155,18 +170,18 @@ fn property_17(types: &[u8], properties: &[u8], codes: &[u32], p: u16) -> bool
     let run = run_of(codes, path.first, path.count);
     let q = number_of(last_code(&run, path.count));
     partner_codes(types, properties, &run, path.count)
-        | partner_ends(types, properties, codes, p, q)
+        | partner_ends(types, properties, codes, ancestors, p, q)
 }
 
 // The first property that breaks rule 17, by the codes of all segments: 0 for none, else its number plus 1.
-pub fn first_17(types: &[u8], properties: &[u8], codes: &[u32]) -> u16
-    requires { ⌜ FewTypes (now types) × FewProperties (now properties) ⌝ }
+pub fn first_17(types: &[u8], properties: &[u8], codes: &[u32], ancestors: &[u64]) -> u16
+    requires { ⌜ FewTypes (now types) × FewProperties (now properties) × (now ancestors ≡ ancestorsOf (now types)) ⌝ }
     ensures { λ r. ⌜ r ≡ firstFrom (λ p. partnerCoded (modelOf [] (now (types .entry)) (now (properties .entry)) [] [] [] [] [] []) (now (codes .entry)) p) 0 (propertyCount (now (properties .entry))) ⌝ }
 {
     let n = property_count(properties);
     let mut p: u16 = 0;
     while p < n {
-        if property_17(types, properties, codes, p) {
+        if property_17(types, properties, codes, ancestors, p) {
             return p + 1;
         }
         p += 1;

@@ -1,3 +1,3 @@
 pub mod Orders
-pub mod Walks
+pub mod CodedPaths
 pub mod Split

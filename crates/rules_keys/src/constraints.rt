@@ -2,11 +2,9 @@
 ghost use mathlib.Core.Path.{_≡_};
 ghost use mathlib.Core.List.{[]};
 ghost use Prim.Native.Nat.{_<_};
-ghost use lib.ListN.{length};
 ghost use Rattle.csdl.specs.Search.{firstFrom};
 ghost use Rattle.csdl.specs.Tables.{constraintCount};
 ghost use Rattle.csdl.specs.Model.{modelOf};
-ghost use Rattle.csdl.specs.Properties as rules;
 ghost use Rattle.csdl.specs.Paths.{sameShape, bothComplex, otherNullable};
 ghost use Rattle.path_resolution.specs.Resolution.{lastCode, numberOf};
 ghost use Rattle.path_resolution.specs.Coded.{runOf};
@@ -74,8 +72,8 @@ fn constraint_ends(types: &[u8], properties: &[u8], p: u16, d: u16, r: u16) -> b
 }
 
 // Whether a path has a cast, a step that it may not have, or no last property (16b to 16d).
-fn constraint_codes(types: &[u8], properties: &[u8], codes: &[u32], n: u16) -> bool
-    requires { ⌜ FewTypes (now types) × (length (now codes) ≡ 16) × (n < 16) ⌝ }
+fn constraint_codes(types: &[u8], properties: &[u8], codes: &[u32; 16], n: u16) -> bool
+    requires { ⌜ FewTypes (now types) × (n < 16) ⌝ }
     ensures { λ x. ⌜ x ≡ constraintCodes (modelOf [] (now (types .entry)) (now (properties .entry)) [] [] [] [] [] []) (now (codes .entry)) n ⌝ }
 {
     has_cast(codes, n)
@@ -91,20 +89,20 @@ fn constraint_codes(types: &[u8], properties: &[u8], codes: &[u32], n: u16) -> b
 }
 
 // A path of a constraint, by the codes of all segments: whether 16b to 16d refuse it, and its last property.
-struct Walk {
+struct PathForm {
     fails: bool,
-    end: u16,
+    last: u16,
 }
 
-fn constraint_walk(types: &[u8], properties: &[u8], codes: &[u32], first: u16, n: u16) -> Walk
+fn constraint_path(types: &[u8], properties: &[u8], codes: &[u32], first: u16, n: u16) -> PathForm
     requires { ⌜ FewTypes (now types) × (first < 2048) × (n < 16) ⌝ }
-    ensures { λ w. ⌜ w .fails ≡ constraintCodes (modelOf [] (now (types .entry)) (now (properties .entry)) [] [] [] [] [] []) (runOf (now (codes .entry)) first n) n ⌝ }
-    ensures { λ w. ⌜ w .end ≡ numberOf (lastCode (runOf (now (codes .entry)) first n) n) ⌝ }
+    ensures { λ x. ⌜ x .fails ≡ constraintCodes (modelOf [] (now (types .entry)) (now (properties .entry)) [] [] [] [] [] []) (runOf (now (codes .entry)) first n) n ⌝ }
+    ensures { λ x. ⌜ x .last ≡ numberOf (lastCode (runOf (now (codes .entry)) first n) n) ⌝ }
 {
     let run = run_of(codes, first, n);
     let fails = constraint_codes(types, properties, &run, n);
-    let end = number_of(last_code(&run, n));
-    Walk { fails, end }
+    let last = number_of(last_code(&run, n));
+    PathForm { fails, last }
 }
 
 // Whether constraint c breaks rule 16, by the codes of all segments.
@@ -114,10 +112,10 @@ fn constraint_16(types: &[u8], properties: &[u8], constraints: &[u8], codes: &[u
 {
     let p = constraint_property(constraints, c);
     let dependent = constraint_dependent(constraints, c);
-    let d = constraint_walk(types, properties, codes, dependent.first, dependent.count);
+    let d = constraint_path(types, properties, codes, dependent.first, dependent.count);
     let principal = constraint_principal(constraints, c);
-    let r = constraint_walk(types, properties, codes, principal.first, principal.count);
-    d.fails | r.fails | constraint_ends(types, properties, p, d.end, r.end)
+    let r = constraint_path(types, properties, codes, principal.first, principal.count);
+    d.fails | r.fails | constraint_ends(types, properties, p, d.last, r.last)
 }
 
 // The first constraint that breaks rule 16, by the codes of all segments: 0 for none, else its number plus 1.

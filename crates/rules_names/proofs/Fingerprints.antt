@@ -1,5 +1,5 @@
--- Digests byte by byte, and what fingerprints that differ say. Assumes nothing.
-use Prim.Native.Nat.{ℕ, _+_, _*_, _/_, _%_, _≤_, _<_}
+-- Digests, and what fingerprints that differ say. Assumes nothing.
+use Prim.Native.Nat.{ℕ, _+_, _*_, _%_, _<_}
 use mathlib.Core.Path.{_≡_, refl, sym, _∙_}
 use mathlib.Core.List.{List}
 use mathlib.Core.Bool.{Bool, true, false, _&&_, false≢true}
@@ -17,11 +17,10 @@ use Rattle.csdl.specs.Form.{sameType}
 use Rattle.rules_names.specs.Repeats.{sameChild}
 use Rattle.rules_names.specs.Digests.{digestTo, fingerprintOf, typeFingerprint, childFingerprint, Fingerprinted}
 
--- eight bytes more
-pub digest-next : (d : ℕ) (s : List ℕ) (i e w : ℕ) → e ≡ digestTo d s i → w ≡ fieldOf s (8 * (8 * i)) 64
-    → (1000003 * e + 65599 * (w / 4294967296) + w % 4294967296) % 4294967296 ≡ digestTo d s (i + 1)
+-- four bytes more
+pub digest-next : (s : List ℕ) (i d w : ℕ) → d ≡ digestTo s i → w ≡ fieldOf s (8 * (4 * i)) 32 → (1000003 * d + w) % 4294967296 ≡ digestTo s (i + 1)
 unfolding digestTo
-digest-next d s i e w p q = rw (add-one i, p, q)
+digest-next s i d w p q = rw (add-one i, p, q)
 
 module _ (a b : ℕ) (s t : List ℕ) where
   -- names that are the same under the same number have one fingerprint

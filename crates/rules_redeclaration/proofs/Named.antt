@@ -1,8 +1,8 @@
 -- The properties that rule 11 asks about have the property's own name. Assumes nothing.
 use Prim.Native.Nat.{ℕ}
-use mathlib.Core.Path.{_≡_, sym, _∙_}
+use mathlib.Core.Path.{_≡_, _∙_}
 use mathlib.Core.List.{List, []}
-use mathlib.Core.Bool.{Bool, true, false, not, _&&_, and-true, and-false}
+use mathlib.Core.Bool.{true, false, and-true, and-false}
 use lib.Dec.{eqb}
 use Rattle.packed.specs.Bytes.{same}
 use Rattle.packed.proofs.Laws.{same-sym}

@@ -1,4 +1,4 @@
-// Rule 11, of a property: a name declared again on the owner, or below an ancestor's property without right.
+// Rule 11: a name declared again on the owner, or below an ancestor's property without right.
 ghost use mathlib.Core.Path.{_≡_};
 ghost use mathlib.Core.List.{[]};
 ghost use Prim.Native.Nat.{_<_};
@@ -6,7 +6,7 @@ ghost use lib.Dec.{eqb};
 ghost use Rattle.type_hierarchy.specs.AncestorSets.{ancestorsOf};
 ghost use Rattle.lookup.specs.Index.{Indexed};
 ghost use Rattle.csdl.specs.Tables.{propertyCount, propertyOwner, propertyTypeRef};
-ghost use Rattle.csdl.specs.Search.{anyFrom};
+ghost use Rattle.csdl.specs.Search.{anyFrom, firstFrom};
 ghost use Rattle.csdl.specs.Model.{modelOf};
 ghost use Rattle.csdl.specs.Find as find;
 ghost use Rattle.csdl.specs.Properties as rules;
@@ -18,6 +18,7 @@ use lookup::index::next_alike;
 use model_image::numbers::alike;
 use model_image::properties::property_collection;
 use model_image::properties::property_contains;
+use model_image::properties::property_count;
 use model_image::properties::property_navigation;
 use model_image::properties::property_nullable;
 use model_image::properties::property_owner;
@@ -149,7 +150,7 @@ fn wrongly_redeclared(
 }
 
 // Whether the property breaks rule 11; `ancestors` has those of all types.
-pub fn property_11(
+fn property_11(
     types: &[u8],
     properties: &[u8],
     names: &[u8],
@@ -164,4 +165,26 @@ pub fn property_11(
         return true;
     }
     wrongly_redeclared(types, properties, names, index, ancestors, p)
+}
+
+// The first property that breaks rule 11: 0 for none, else its number plus 1.
+pub fn first_11(
+    types: &[u8],
+    properties: &[u8],
+    names: &[u8],
+    index: &[u16],
+    ancestors: &[u64],
+) -> u16
+    requires { ⌜ FewTypes (now types) × FewProperties (now properties) × Indexed (now properties) (now names) (now index) × (now ancestors ≡ ancestorsOf (now types)) ⌝ }
+    ensures { λ r. ⌜ r ≡ firstFrom (λ p. rules.property11 (modelOf [] (now (types .entry)) (now (properties .entry)) [] [] [] [] [] (now (names .entry))) p) 0 (propertyCount (now (properties .entry))) ⌝ }
+{
+    let n = property_count(properties);
+    let mut p: u16 = 0;
+    while p < n {
+        if property_11(types, properties, names, index, ancestors, p) {
+            return p + 1;
+        }
+        p += 1;
+    }
+    0
 }

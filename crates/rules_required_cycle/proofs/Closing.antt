@@ -1,9 +1,9 @@
 -- A set put in the place of a row that went through one number more. Assumes nothing.
 use Prim.Native.Nat.{ℕ, _+_, _<_}
-use mathlib.Core.Path.{_≡_, _∙_, ap}
+use mathlib.Core.Path.{_∙_, ap}
 use mathlib.Core.List.{List}
 use mathlib.Core.Bool.{_&&_, _||_}
-use lib.ListN.{length, getD, set}
+use lib.ListN.{length, set}
 use lib.Seq.{getD-set-same, getD-set-other}
 use Rattle.type_hierarchy.specs.Sets.{member, Members, stepOf}
 use Rattle.type_hierarchy.proofs.Closing.{Going, going-more}

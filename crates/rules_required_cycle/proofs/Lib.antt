@@ -1,4 +1,3 @@
 pub mod Gather
 pub mod Steps
 pub mod Closing
-pub mod Stepping

@@ -1,19 +1,18 @@
--- The steps that a property gives; a type and its ancestors stand as a set.
+-- The steps that a type has by its own properties.
 use Prim.Native.Nat.{ℕ, _<_}
-use mathlib.Core.Path.{_≡_}
 use mathlib.Core.List.{List}
-use mathlib.Core.Bool.{Bool, _&&_, _||_}
+use mathlib.Core.Bool.{Bool, _&&_}
 use lib.Dec.{eqb}
-use lib.ListN.{length, getD}
+use lib.ListN.{getD}
+use Rattle.csdl.specs.Search.{anyFrom}
 use Rattle.csdl.specs.Model.{Model}
 use Rattle.csdl.specs.Properties.{required}
-use Rattle.type_hierarchy.specs.Sets.{member, Members}
+use Rattle.type_hierarchy.specs.Sets.{Members}
 
--- p is required, leads to u, and is of a type of the set.
-unfoldable pub leads : Model → ℕ → ℕ → ℕ → Bool
-leads m owners u p = required m p && eqb (m .typeRef p) u && member owners (m .owner p)
+-- p is required, leads to u, and is of type t.
+unfoldable pub ownStep : Model → ℕ → ℕ → ℕ → Bool
+ownStep m t u p = required m p && eqb (m .typeRef p) u && eqb (m .owner p) t
 
--- The rows below n got the numbers that pass the test of their row.
-pub record Stepped (n : ℕ) (test : ℕ → ℕ → Bool) (before after : List ℕ) : Type 0 where
-  pub same-length : length after ≡ length before
-  pub row : (t : ℕ) → t < n → Members 64 (getD after t 0) (λ v. member (getD before t 0) v || test t v)
+-- Row t has the steps that the first n properties give to t.
+abbrev pub Owned : Model → ℕ → List ℕ → Type 0
+Owned m n rows = (t : ℕ) → t < 64 → Members 64 (getD rows t 0) (λ u. anyFrom (λ p. ownStep m t u p) 0 n)

@@ -2,20 +2,20 @@
 // gone through those below c, row a has what is reached from a through numbers below c.
 ghost use mathlib.Core.Path.{_≡_};
 ghost use mathlib.Core.Bool.{_||_, _&&_};
-ghost use Prim.Native.Nat.{_≤_, _<_};
+ghost use Prim.Native.Nat.{ℕ, _≤_, _<_};
 ghost use lib.ListN.{length};
 ghost use Rattle.csdl.specs.Climb.{reaches};
-ghost use Rattle.type_hierarchy.specs.Sets.{member, Members, setOf, stepOf};
+ghost use Rattle.type_hierarchy.specs.Sets.{member, setOf, stepOf};
 ghost use Rattle.rules_required_cycle.specs.Closing.{Through, Closed};
 use model_image::numbers::one_if;
 use type_hierarchy::type_sets::in_set;
 
-// The row, and row c where c is in it.
-fn with_row(rows: &[u64], row: u64, c: u16) -> u64
+// The row, and row c where c is in the set.
+pub fn with_row(rows: &[u64], set: u64, row: u64, c: u16) -> u64
     requires { ⌜ (length (now rows) ≡ 64) × (c < 64) ⌝ }
-    ensures { λ r. ⌜ Members 64 r (λ b. member row b || (member row c && stepOf (now (rows .entry)) c b)) ⌝ }
+    ensures { λ r. ⌜ ((b : ℕ) → b < 64 → member r b ≡ (member row b || (member set c && stepOf (now (rows .entry)) c b))) ⌝ }
 {
-    if in_set(row, c) {
+    if in_set(set, c) {
         return row | rows[c as usize];
     }
     row
@@ -27,8 +27,8 @@ fn go_through(rows: &mut [u64], n: u16, c: u16)
     ensures { λ r. ⌜ Through n c (now (rows .entry)) (now (rows .exit)) ⌝ }
 {
     for a in 0..n {
-        let row = with_row(rows, rows[a as usize], c);
-        rows[a as usize] = row;
+        let row = rows[a as usize];
+        rows[a as usize] = with_row(rows, row, row, c);
     }
 }
 

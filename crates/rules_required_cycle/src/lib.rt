@@ -1,3 +1,3 @@
 // Rule 12: no type reaches itself by required steps.
-pub mod cycles;
+mod cycles;
 pub mod required;

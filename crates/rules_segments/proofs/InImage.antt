@@ -8,7 +8,7 @@ use Rattle.csdl.specs.Image.{modelIn}
 use Rattle.path_resolution.specs.Resolution.{ResolvedTo}
 use Rattle.path_resolution.proofs.Frame.{resolved-frame}
 use Rattle.lookup.specs.Index.{Indexed}
-use Rattle.type_hierarchy.specs.AncestorSets.{setsOf}
+use Rattle.type_hierarchy.specs.AncestorSets.{ancestorsOf}
 use Rattle.model_image.specs.Laid.{typesIn, propertiesIn, segmentsIn, namesIn}
 use Rattle.rules_segments.specs.Indexes.{IndexIn, AncestorsIn}
 
@@ -21,11 +21,11 @@ module _ (image : List ℕ) where
   unfolding IndexIn
   is-index i e f = rw (e, f) at i
 
-  pub ancestors-in : {ty ancestors : List ℕ} → AncestorsIn image ancestors → ty ≡ typesIn image → ancestors ≡ setsOf ty
+  pub ancestors-in : {ty ancestors : List ℕ} → AncestorsIn image ancestors → ty ≡ typesIn image → ancestors ≡ ancestorsOf ty
   unfolding AncestorsIn
   ancestors-in i e = rw e i
 
-  pub is-ancestors : {ty ancestors : List ℕ} → ancestors ≡ setsOf ty → ty ≡ typesIn image → AncestorsIn image ancestors
+  pub is-ancestors : {ty ancestors : List ℕ} → ancestors ≡ ancestorsOf ty → ty ≡ typesIn image → AncestorsIn image ancestors
   unfolding AncestorsIn
   is-ancestors i e = rw e at i
 

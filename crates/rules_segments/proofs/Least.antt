@@ -18,17 +18,17 @@ use Rattle.path_kinds.specs.Kinds.{kindAt}
 use Rattle.rules_segments.specs.Lowest.{Lowest}
 
 -- The first n tests of a family have been asked.
-pub record Least (f : ℕ → ℕ → Bool) (top n low : ℕ) : Type 0 where
-  pub most : low ≤ top
+pub record Least (f : ℕ → ℕ → Bool) (bound n low : ℕ) : Type 0 where
+  pub most : low ≤ bound
   pub below : (g : ℕ) → g < low → (j : ℕ) → j < n → f j g ≡ false
-  pub hit : low < top → (j : ℕ) × (j < n) × (f j low ≡ true)
+  pub hit : low < bound → (j : ℕ) × (j < n) × (f j low ≡ true)
 
-pub least-start : (f : ℕ → ℕ → Bool) (top : ℕ) → Least f top 0 top
-least-start f top = record { most = omega arith; below = λ g h j l. absurd (omega arith); hit = λ h. absurd (omega arith) }
+pub least-start : (f : ℕ → ℕ → Bool) (bound : ℕ) → Least f bound 0 bound
+least-start f bound = record { most = omega arith; below = λ g h j l. absurd (omega arith); hit = λ h. absurd (omega arith) }
 
 -- One test more, whose lowest number below the present one is found.
-pub least-more : (f : ℕ → ℕ → Bool) (top n low next : ℕ) → Least f top n low → Lowest (f n) low next → Least f top (n + 1) next
-least-more f top n low next l s = record {
+pub least-more : (f : ℕ → ℕ → Bool) (bound n low next : ℕ) → Least f bound n low → Lowest (f n) low next → Least f bound (n + 1) next
+least-more f bound n low next l s = record {
   most = omega (arith, l .most, s .most);
   below = λ g h j k. under g h j k (ltb j n) refl;
   hit = λ h. met h (ltb next low) refl;
@@ -38,7 +38,7 @@ least-more f top n low next l s = record {
     under g h j k true e = l .below g (omega (arith, s .most)) j (ltb-true j n e)
     under g h j k false e = let q : j ≡ n = omega (arith, ltb-false j n e) in rw q (s .below g h)
 
-    met : next < top → (b : Bool) → ltb next low ≡ b → (j : ℕ) × (j < n + 1) × (f j next ≡ true)
+    met : next < bound → (b : Bool) → ltb next low ≡ b → (j : ℕ) × (j < n + 1) × (f j next ≡ true)
     met h true e = (n, omega arith, s .hit (ltb-true next low e))
     met h false e =
         let q : next ≡ low = omega (arith, ltb-false next low e, s .most) in
@@ -46,8 +46,8 @@ least-more f top n low next l s = record {
         (w .0, omega (arith, w .1), subst (λ (x : ℕ). f (w .0) x ≡ true) (sym q) (w .2))
 
 -- All of them asked: the lowest number at which any passes.
-pub least-any : (f : ℕ → ℕ → Bool) (top n low : ℕ) → Least f top n low → Lowest (λ g. anyFrom (λ j. f j g) 0 n) top low
-least-any f top n low l = record {
+pub least-any : (f : ℕ → ℕ → Bool) (bound n low : ℕ) → Least f bound n low → Lowest (λ g. anyFrom (λ j. f j g) 0 n) bound low
+least-any f bound n low l = record {
   most = l .most;
   below = λ g h. none-any (λ j. f j g) 0 n (λ j a b. l .below g h j (omega arith));
   hit = λ h. let w = l .hit h in any-of (λ j. f j low) 0 n (w .0) (omega arith) (omega (arith, w .1)) (w .2);
@@ -61,9 +61,9 @@ empty-run run g h = go (leb (run .first) g) refl
     go true e = le-ltb g (run .first + run .count) (omega (arith, leb-true (run .first) g e, h))
     go false e = refl
 
-pub empty-path : (m : Model) (w : PathKind) (r top : ℕ) → pathOf m w r .count ≡ 0 → Lowest (λ g. unresolvedIn m w g r) top top
+pub empty-path : (m : Model) (w : PathKind) (r bound : ℕ) → pathOf m w r .count ≡ 0 → Lowest (λ g. unresolvedIn m w g r) bound bound
 unfolding unresolvedIn
-empty-path m w r top h = record {
+empty-path m w r bound h = record {
   most = omega arith;
   below = λ g l. rw (empty-run (pathOf m w r) g h);
   hit = λ l. absurd (omega arith);
@@ -93,12 +93,12 @@ any-kind m g =
     ∙ sym (rule14-is m g)
 
 -- The lowest segment that does not resolve, by all kinds.
-pub lowest-14 : (m : Model) (top low : ℕ) → Least (λ j g. unresolvedOf m (kindAt j) g) top 6 low → Lowest (λ g. segment14 m g) top low
-lowest-14 m top low l =
-    let s = least-any (λ j g. unresolvedOf m (kindAt j) g) top 6 low l in
+pub lowest-14 : (m : Model) (bound low : ℕ) → Least (λ j g. unresolvedOf m (kindAt j) g) bound 6 low → Lowest (λ g. segment14 m g) bound low
+lowest-14 m bound low l =
+    let s = least-any (λ j g. unresolvedOf m (kindAt j) g) bound 6 low l in
     record { most = s .most; below = λ g h. rw (← any-kind m g) (s .below g h); hit = λ h. rw (← any-kind m low) (s .hit h) }
 
 -- The lowest segment at which a path of one kind does not resolve, by all its records.
-pub lowest-kind : (m : Model) (w : PathKind) (top n low : ℕ) → n ≡ holders m w → Least (λ j g. unresolvedIn m w g j) top n low → Lowest (λ g. unresolvedOf m w g) top low
+pub lowest-kind : (m : Model) (w : PathKind) (bound n low : ℕ) → n ≡ holders m w → Least (λ j g. unresolvedIn m w g j) bound n low → Lowest (λ g. unresolvedOf m w g) bound low
 unfolding unresolvedOf
-lowest-kind m w top n low e l = rw (← e) (least-any (λ j g. unresolvedIn m w g j) top n low l)
+lowest-kind m w bound n low e l = rw (← e) (least-any (λ j g. unresolvedIn m w g j) bound n low l)

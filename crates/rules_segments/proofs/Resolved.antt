@@ -49,15 +49,15 @@ module _ (m : Model) (w : PathKind) (r : ℕ) (codes : List ℕ) (taken end : �
       (in-run (pathOf m w r) (pathOf m w r .first + taken) (omega arith) (omega arith))
       (lt-leb (pathOf m w r .first + taken + 1 - pathOf m w r .first) taken (omega arith))
 
-  -- The lowest number below `top` at which the path does not resolve.
-  pub lowest-here : (top : ℕ) → taken < pathOf m w r .count → pathOf m w r .first + taken < top → Lowest (λ g. unresolvedIn m w g r) top (pathOf m w r .first + taken)
-  lowest-here top h l = record { most = omega arith; below = λ g k. unresolved-below g k; hit = λ k. unresolved-here h }
+  -- The lowest number below `bound` at which the path does not resolve.
+  pub lowest-here : (bound : ℕ) → taken < pathOf m w r .count → pathOf m w r .first + taken < bound → Lowest (λ g. unresolvedIn m w g r) bound (pathOf m w r .first + taken)
+  lowest-here bound h l = record { most = omega arith; below = λ g k. unresolved-below g k; hit = λ k. unresolved-here h }
 
-  pub lowest-later : (top : ℕ) → top ≤ pathOf m w r .first + taken → Lowest (λ g. unresolvedIn m w g r) top top
-  lowest-later top l = record { most = omega arith; below = λ g k. unresolved-below g (omega arith); hit = λ k. absurd (omega arith) }
+  pub lowest-later : (bound : ℕ) → bound ≤ pathOf m w r .first + taken → Lowest (λ g. unresolvedIn m w g r) bound bound
+  lowest-later bound l = record { most = omega arith; below = λ g k. unresolved-below g (omega arith); hit = λ k. absurd (omega arith) }
 
-  pub lowest-never : (top : ℕ) → pathOf m w r .count ≤ taken → Lowest (λ g. unresolvedIn m w g r) top top
-  lowest-never top h = record { most = omega arith; below = λ g k. unresolved-never h g; hit = λ k. absurd (omega arith) }
+  pub lowest-never : (bound : ℕ) → pathOf m w r .count ≤ taken → Lowest (λ g. unresolvedIn m w g r) bound bound
+  lowest-never bound h = record { most = omega arith; below = λ g k. unresolved-never h g; hit = λ k. absurd (omega arith) }
 
 -- The same from what the functions that read the path and its start, and resolve it, ensure.
 module _ (m : Model) (w : PathKind) (r start first count taken end : ℕ) (codes : List ℕ) (es : start ≡ startOf m w r) (first-is : first ≡ pathOf m w r .first)
@@ -66,15 +66,15 @@ module _ (m : Model) (w : PathKind) (r start first count taken end : ℕ) (codes
   whole = rw (← es, ← first-is, ← count-is) t
 
   -- The same as the code finds it.
-  pub path-lowest : (top : ℕ) → Lowest (λ g. unresolvedIn m w g r) top (cond (leb count taken) top (cond (leb top (first + taken)) top (first + taken)))
-  path-lowest top = go (leb count taken) refl (leb top (first + taken)) refl
+  pub path-lowest : (bound : ℕ) → Lowest (λ g. unresolvedIn m w g r) bound (cond (leb count taken) bound (cond (leb bound (first + taken)) bound (first + taken)))
+  path-lowest bound = go (leb count taken) refl (leb bound (first + taken)) refl
     where
-      go : (a : Bool) → leb count taken ≡ a → (b : Bool) → leb top (first + taken) ≡ b → Lowest (λ g. unresolvedIn m w g r) top (cond a top (cond b top (first + taken)))
-      go true e b f = lowest-never m w r codes taken end whole top (omega (arith, count-is, leb-true count taken e))
-      go false e true f = lowest-later m w r codes taken end whole top (omega (arith, first-is, leb-true top (first + taken) f))
+      go : (a : Bool) → leb count taken ≡ a → (b : Bool) → leb bound (first + taken) ≡ b → Lowest (λ g. unresolvedIn m w g r) bound (cond a bound (cond b bound (first + taken)))
+      go true e b f = lowest-never m w r codes taken end whole bound (omega (arith, count-is, leb-true count taken e))
+      go false e true f = lowest-later m w r codes taken end whole bound (omega (arith, first-is, leb-true bound (first + taken) f))
       go false e false f =
           rw first-is
-          (lowest-here m w r codes taken end whole top (omega (arith, count-is, leb-false count taken e)) (omega (arith, first-is, leb-false top (first + taken) f)))
+          (lowest-here m w r codes taken end whole bound (omega (arith, count-is, leb-false count taken e)) (omega (arith, first-is, leb-false bound (first + taken) f)))
 
   -- Its codes have room, and kept they are those of the path.
   module _ (fit : Resolvable m) (there : r < holders m w) where

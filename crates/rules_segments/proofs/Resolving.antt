@@ -1,5 +1,5 @@
 -- From the rules that a model keeps to what the codes rest on. Assumes nothing.
-use Prim.Native.Nat.{ℕ, _≤_}
+use Prim.Native.Nat.{_≤_}
 use native.Mathlib.Omega.{arith}
 use Rattle.csdl.specs.Model.{Model}
 use Rattle.csdl.specs.Form.{rule4}

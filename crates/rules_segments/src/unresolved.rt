@@ -25,10 +25,9 @@ use path_kinds::in_image::holders_in;
 use path_kinds::in_image::path_in;
 use path_kinds::in_image::start_in;
 use path_kinds::kinds::kind_at;
+use path_resolution::resolve::PathFrom;
 use path_resolution::resolve::Resolved;
-use path_resolution::resolve::Way;
 use path_resolution::resolve::resolve_path;
-use type_hierarchy::ancestors::ancestor_sets;
 
 // The codes of a path, kept at the numbers of its segments.
 fn keep_run(run: &[u32], first: u16, count: u16, codes: &mut [u32])
@@ -43,22 +42,28 @@ fn keep_run(run: &[u32], first: u16, count: u16, codes: &mut [u32])
     }
 }
 
-// The first segment of a path that does not resolve, where `taken` of its segments do, if it is below `top`; else `top`.
-fn unresolved_at(first: u16, count: u16, taken: u16, top: u16) -> u16
+// The first segment of a path that does not resolve, where `taken` of its segments do, if it is below `bound`; else `bound`.
+fn unresolved_at(first: u16, count: u16, taken: u16, bound: u16) -> u16
     requires { ⌜ (first < 2048) × (count < 16) ⌝ }
-    ensures { λ r. ⌜ r ≡ cond (leb count taken) top (cond (leb top (first + taken)) top (first + taken)) ⌝ }
+    ensures { λ r. ⌜ r ≡ cond (leb count taken) bound (cond (leb bound (first + taken)) bound (first + taken)) ⌝ }
 {
     if count <= taken {
-        return top;
+        return bound;
     }
     let at = first + taken;
-    if top <= at { top } else { at }
+    if bound <= at { bound } else { at }
 }
 
 // A path resolved in the image's tables.
-fn resolve_in(image: &[u8], at: Layout, index: &[u16], ancestors: &[u64], way: Way) -> Resolved
-    requires { ⌜ Laid (now image) at × IndexIn (now image) (now index) × AncestorsIn (now image) (now ancestors) × (way .first < 2048) × (way .count < 16) ⌝ }
-    ensures { λ t. ⌜ ResolvedTo (modelIn (now (image .entry))) (way .start) (way .first) (way .count) (t .codes) (t .taken) (t .end) ⌝ }
+fn resolve_in(
+    image: &[u8],
+    at: Layout,
+    index: &[u16],
+    ancestors: &[u64],
+    path: PathFrom,
+) -> Resolved
+    requires { ⌜ Laid (now image) at × IndexIn (now image) (now index) × AncestorsIn (now image) (now ancestors) × (path .first < 2048) × (path .count < 16) ⌝ }
+    ensures { λ t. ⌜ ResolvedTo (modelIn (now (image .entry))) (path .start) (path .first) (path .count) (t .codes) (t .taken) (t .end) ⌝ }
 {
     resolve_path(
         types_of(image, at),
@@ -67,7 +72,7 @@ fn resolve_in(image: &[u8], at: Layout, index: &[u16], ancestors: &[u64], way: W
         names_of(image, at),
         index,
         ancestors,
-        way,
+        path,
     )
 }
 
@@ -77,18 +82,18 @@ struct Holder {
     r: u16,
 }
 
-// The path of the record: its lowest segment below `top` that does not resolve, or `top`. Its codes are kept.
+// The path of the record: its lowest segment below `bound` that does not resolve, or `bound`. Its codes are kept.
 fn unresolved_in(
     image: &[u8],
     at: Layout,
     index: &[u16],
     ancestors: &[u64],
     holder: Holder,
-    top: u16,
+    bound: u16,
     codes: &mut [u32],
 ) -> u16
     requires { ⌜ Laid (now image) at × IndexIn (now image) (now index) × Resolvable (modelIn (now image)) × (holder .r < holders (modelIn (now image)) (holder .kind)) × ((modelIn (now image)) .segments ≤ length (now codes)) × AncestorsIn (now image) (now ancestors) ⌝ }
-    ensures { λ low. ⌜ Lowest (λ g. unresolvedIn (modelIn (now (image .entry))) (holder .kind) g (holder .r)) top low ⌝ }
+    ensures { λ low. ⌜ Lowest (λ g. unresolvedIn (modelIn (now (image .entry))) (holder .kind) g (holder .r)) bound low ⌝ }
     ensures { λ low. ⌜ PathStep (modelIn (now (image .entry))) (holder .kind) (holder .r) (now (codes .entry)) (now (codes .exit)) ⌝ }
 {
     let kind = holder.kind;
@@ -97,38 +102,38 @@ fn unresolved_in(
     let first = path.first;
     let count = path.count;
     if count == 0 {
-        return top;
+        return bound;
     }
     let start = start_in(image, at, kind, r);
-    let way = Way {
+    let from = PathFrom {
         start,
         first,
         count,
     };
-    let t = resolve_in(image, at, index, ancestors, way);
+    let t = resolve_in(image, at, index, ancestors, from);
     let taken = t.taken;
     let run = t.codes;
     keep_run(&run, first, count, codes);
-    unresolved_at(first, count, taken, top)
+    unresolved_at(first, count, taken, bound)
 }
 
-// The paths of the kind: the lowest segment below `top` at which one does not resolve, or `top`.
+// The paths of the kind: the lowest segment below `bound` at which one does not resolve, or `bound`.
 fn unresolved_of(
     image: &[u8],
     at: Layout,
     index: &[u16],
     ancestors: &[u64],
     kind: PathKind,
-    top: u16,
+    bound: u16,
     codes: &mut [u32],
 ) -> u16
     requires { ⌜ Laid (now image) at × IndexIn (now image) (now index) × Resolvable (modelIn (now image)) × ((modelIn (now image)) .segments ≤ length (now codes)) × AncestorsIn (now image) (now ancestors) ⌝ }
-    ensures { λ low. ⌜ Lowest (λ g. unresolvedOf (modelIn (now (image .entry))) kind g) top low ⌝ }
+    ensures { λ low. ⌜ Lowest (λ g. unresolvedOf (modelIn (now (image .entry))) kind g) bound low ⌝ }
     ensures { λ low. ⌜ KindStep (modelIn (now (image .entry))) kind (holders (modelIn (now (image .entry))) kind) (now (codes .entry)) (now (codes .exit)) ⌝ }
     ensures { λ low. ⌜ PastKept (modelIn (now (image .entry))) (now (codes .entry)) (now (codes .exit)) ⌝ }
 {
     let n = holders_in(image, at, kind);
-    let mut low = top;
+    let mut low = bound;
     for r in 0..n {
         let holder = Holder { kind, r };
         low = unresolved_in(image, at, index, ancestors, holder, low, codes);
@@ -145,18 +150,23 @@ fn segments_in(image: &[u8], at: Layout) -> u16
 }
 
 // The first segment that does not resolve: 0 for none, else its number plus 1. The codes of all segments are kept, and nothing past them changes.
-pub fn first_14(image: &[u8], at: Layout, index: &[u16], codes: &mut [u32]) -> u16
-    requires { ⌜ Laid (now image) at × IndexIn (now image) (now index) × Resolvable (modelIn (now image)) × ((modelIn (now image)) .segments ≤ length (now codes)) ⌝ }
+pub fn first_14(
+    image: &[u8],
+    at: Layout,
+    index: &[u16],
+    ancestors: &[u64],
+    codes: &mut [u32],
+) -> u16
+    requires { ⌜ Laid (now image) at × IndexIn (now image) (now index) × Resolvable (modelIn (now image)) × ((modelIn (now image)) .segments ≤ length (now codes)) × AncestorsIn (now image) (now ancestors) ⌝ }
     ensures { λ r. ⌜ r ≡ firstFrom (λ g. segment14 (modelIn (now (image .entry))) g) 0 ((modelIn (now (image .entry))) .segments) ⌝ }
     ensures { λ r. ⌜ Coded (modelIn (now (image .entry))) (now (codes .exit)) ⌝ }
     ensures { λ r. ⌜ (length (now (codes .exit)) ≡ length (now (codes .entry))) × ((g : ℕ) → (modelIn (now (image .entry))) .segments ≤ g → getD (now (codes .exit)) g 0 ≡ getD (now (codes .entry)) g 0) ⌝ }
 {
     let n = segments_in(image, at);
-    let ancestors = ancestor_sets(types_of(image, at));
     let mut low = n;
     for k in 0..6 {
         let kind = kind_at(k);
-        low = unresolved_of(image, at, index, &ancestors, kind, low, codes);
+        low = unresolved_of(image, at, index, ancestors, kind, low, codes);
     }
     if low < n {
         return low + 1;

@@ -2,12 +2,12 @@
 ghost use mathlib.Core.Path.{_≡_};
 ghost use mathlib.Core.List.{[]};
 ghost use mathlib.Core.Bool.{_||_};
-ghost use Prim.Native.Nat.{_-_, _<_};
 ghost use Rattle.csdl.specs.Search.{firstFrom};
-ghost use Rattle.csdl.specs.Tables.{typeBase, typeCount};
+ghost use Rattle.csdl.specs.Tables.{typeCount};
 ghost use Rattle.csdl.specs.Model.{modelOf};
 ghost use Rattle.csdl.specs.Types.{type8a, type8b, type8c, type8d, type8e, type8f, type8g, type8h, type8i, type8, type9};
 ghost use Rattle.model_image.specs.Limits.{FewTypes};
+use model_image::numbers::less_one;
 use model_image::types::type_abstract;
 use model_image::types::type_base;
 use model_image::types::type_count;
@@ -17,21 +17,13 @@ use model_image::types::type_open;
 use model_image::types::type_underlying;
 use type_hierarchy::bases::ancestor;
 
-// The number of the direct base; 0 also where there is none.
-fn base_of(types: &[u8], t: u16) -> u16
-    ensures { λ r. ⌜ (r ≡ typeBase (now (types .entry)) t - 1) × (r < 128) ⌝ }
-{
-    let base = type_base(types, t);
-    if base == 0 { 0 } else { base - 1 }
-}
-
 // 8a, 8b, 8c: the kind against the kind of the base, and against base and flags.
 fn kind_misfits(types: &[u8], t: u16) -> bool
     ensures { λ r. ⌜ r ≡ (type8a (modelOf [] (now (types .entry)) [] [] [] [] [] [] []) t || type8b (modelOf [] (now (types .entry)) [] [] [] [] [] [] []) t || type8c (modelOf [] (now (types .entry)) [] [] [] [] [] [] []) t) ⌝ }
 {
     let kind = type_kind(types, t);
     let base = type_base(types, t);
-    let base_kind = type_kind(types, base_of(types, t));
+    let base_kind = type_kind(types, less_one(base));
     let media = type_media(types, t);
     ((base != 0) & !(base_kind == kind))
         | ((2 <= kind) & ((base != 0) | type_abstract(types, t) | type_open(types, t) | media))
@@ -42,8 +34,9 @@ fn kind_misfits(types: &[u8], t: u16) -> bool
 fn base_misfits(types: &[u8], t: u16) -> bool
     ensures { λ r. ⌜ r ≡ (type8d (modelOf [] (now (types .entry)) [] [] [] [] [] [] []) t || type8e (modelOf [] (now (types .entry)) [] [] [] [] [] [] []) t || type8f (modelOf [] (now (types .entry)) [] [] [] [] [] [] []) t) ⌝ }
 {
-    let base = base_of(types, t);
-    let derived = type_base(types, t) != 0;
+    let direct = type_base(types, t);
+    let derived = direct != 0;
+    let base = less_one(direct);
     ((type_kind(types, t) == 0) & type_abstract(types, t) & derived & !type_abstract(types, base))
         | (derived & type_open(types, base) & !type_open(types, t))
         | (derived & type_media(types, base) & !type_media(types, t))

@@ -1,30 +1,30 @@
 -- The sheet of an image by the answer of the check. Assumes nothing.
 use Prim.Native.Nat.{ℕ, zero, suc, _+_, _-_, _*_, _≤_, _<_}
-use mathlib.Core.Path.{_≡_, refl, sym, ap, subst, _∙_}
+use mathlib.Core.Path.{_≡_, refl, sym, ap, _∙_}
 use mathlib.Core.List.{List, [], _∷_, _++_, append-nil}
 use mathlib.Core.Bool.{Bool, true, false}
 use native.Mathlib.Nat.{add-zero}
 use native.Mathlib.Omega.{arith}
-use lib.ListN.{length, take, drop, getD}
+use lib.ListN.{length, drop, getD}
 use lib.Seq.{getD-take, getD-drop, length-take-le}
 use borrow.Author.Tests.{le-ltb}
 use Rattle.packed.specs.Bytes.{part}
 use Rattle.packed.proofs.Laws.{two-bytes}
 use Rattle.io.specs.Counts.{Counts}
-use Rattle.csdl.specs.Search.{tab, flat}
+use Rattle.csdl.specs.Search.{tab}
 use Rattle.csdl.specs.Model.{Model, segmentsAt}
 use Rattle.csdl.specs.Image.{modelIn, header, image1, buffer2}
 use Rattle.csdl.specs.Path.{stepOfSegment}
 use Rattle.csdl.specs.Accepted.{ModelPasses}
-use Rattle.csdl.specs.Verdict.{Answer, verdict, modelMeans, modelThen, modelAnswer, modelBuffer, resolution, stepCode, bytesOf}
-use Rattle.csdl.specs.Verdict.Answer.{accepted, refused}
+use Rattle.csdl.specs.Verdict.{verdict, modelMeans, modelThen, modelAnswer, modelBuffer, resolution, stepCode, bytesOf}
+use Rattle.csdl.specs.Verdict.Answer.{accepted}
 use Rattle.csdl.specs.declared.ModelAnswer.{ModelAnswer}
 use Rattle.csdl.specs.declared.ModelAnswer.the-variants.{Accepted, Refused}
 use Rattle.csdl.proofs.Logic.{tab-length, tab-at}
 use Rattle.csdl.proofs.Bounds.{segments-most}
 use Rattle.csdl.proofs.Verdicts.{model-then-accepts}
 use Rattle.demands.proofs.Blocks.{block-at}
-use Rattle.sheet_lines.specs.Text.{acceptedLine, refusedLine, segmentLine, codeLines}
+use Rattle.sheet_lines.specs.Text.{acceptedLine, refusedLine, codeLines}
 use Rattle.sheet_lines.specs.Put.{Put}
 use Rattle.sheet_lines.proofs.Putting.{from-start}
 use Rattle.sheet.specs.Sheet.{markOf, firstLine, firstText, segmentLines, markText}

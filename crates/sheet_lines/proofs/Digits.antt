@@ -1,9 +1,7 @@
 -- The digits that `io::decimal` gives are those of `decimal`.
 use Prim.Native.Nat.{ℕ, zero, suc, _+_, _-_, _*_, _/_, _%_, _^_, _≤_, _<_}
-use mathlib.Core.Path.{_≡_, refl, sym, _∙_, ap}
-use mathlib.Core.Bool.{cond}
-use mathlib.Core.List.{List, [], _∷_, _++_}
-use native.Mathlib.Nat.{pow-suc, pow-zero, pow-le-pow-right, lt-of-not-le, one-le-pow}
+use mathlib.Core.Path.{_≡_}
+use native.Mathlib.Nat.{pow-suc, pow-le-pow-right, lt-of-not-le, one-le-pow}
 use native.Mathlib.Omega.{arith}
 use borrow.Author.Tests.{lt-ltb, le-ltb}
 use Rattle.io.specs.Digits.{digits, glyph}

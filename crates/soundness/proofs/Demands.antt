@@ -17,7 +17,6 @@ use Rattle.csdl.specs.declared.PathKind.{PathKind}
 use Rattle.csdl.specs.declared.PathKind.the-variants.{Key}
 use Rattle.csdl.specs.Instance.{instanceIn, itemBytes}
 use Rattle.csdl.specs.Conforms.{instanceAnswer}
-use Rattle.csdl.specs.Verdict.{modelAnswer}
 use Rattle.csdl.specs.Verdict.Answer.{accepted}
 use Rattle.csdl.specs.Walk.{walked, opened, reachesEnd, start, chosenStart, walk27, walk28, walk29, walkPath, walkResults, walkOpened, walkAnswer, resultBytes}
 use Rattle.csdl.specs.declared.Chosen.{Chosen}
@@ -29,8 +28,9 @@ use Rattle.csdl.specs.Accepted.{ModelPasses, InstancePasses, WalkPasses}
 use Rattle.csdl.proofs.Logic.{true-false, or-no}
 use Rattle.csdl.proofs.Places.{of-type}
 use Rattle.csdl.proofs.Relations.{rule9-decides}
-use Rattle.csdl.proofs.Verdicts.{model-accepts, instance-accepts, walk-accepts}
+use Rattle.csdl.proofs.Verdicts.{instance-accepts, walk-accepts}
 use Rattle.soundness.specs.Lists.{All, Distinct}
+use Rattle.soundness.specs.Premises.{Premises}
 use Rattle.soundness.specs.Demand.{Held, heldPlace, heldNumber, innerIntegral, LiesAt, NullHasOrigin, Demand, One}
 use Rattle.soundness.proofs.Facts.{ModelFacts, InstanceFacts}
 use Rattle.soundness.proofs.Rules.{model-facts, instance-facts}
@@ -40,24 +40,16 @@ use Rattle.soundness.proofs.PathRules.{held-at, held-chosen, path-way, 
 use Rattle.soundness.proofs.Counts.{bytes-length}
 use Rattle.soundness.proofs.Together.{demand, one}
 
--- (3a) No type of an accepted model is its own ancestor: where the rules of the model are kept, where the check of the model accepts, and
--- where the check of an instance against the model accepts.
+-- (3a) No type of an accepted model is its own ancestor.
 pub no-own-ancestor : (image : List ℕ) → ModelPasses image → (t : ℕ) → t < modelIn image .types → Ancestor (modelIn image) t t → ⊥
 no-own-ancestor image p t l a =
     let k = p .model-kept in
     true-false (type9 (modelIn image) t) (rule9-decides (modelIn image) (k .kept4) t l .1 a) (of-type (modelIn image) rule9 (k .kept9) t l)
 
-pub no-own-ancestor-in-model : (image buffer values : List ℕ) → modelAnswer image buffer ≡ accepted values →
-    (t : ℕ) → t < modelIn image .types → Ancestor (modelIn image) t t → ⊥
-no-own-ancestor-in-model image buffer values e = no-own-ancestor image (model-accepts image buffer values .0 e .0)
-
 -- The premise of all that follows: the check of the instance accepts. It asks the rules 1 and 3 to 19 of the model, and 20 to 26 of the instance.
 module _ (model image : List ℕ) (conforms : instanceAnswer model image ≡ accepted []) where
   passes-all : InstancePasses model image
   passes-all = instance-accepts model image .0 conforms
-
-  pub no-own-ancestor-in-use : (t : ℕ) → t < modelIn model .types → Ancestor (modelIn model) t t → ⊥
-  no-own-ancestor-in-use = no-own-ancestor model (passes-all .model-passes)
 
   of-model : ModelFacts (modelIn model)
   of-model = model-facts (modelIn model) (passes-all .model-passes .model-kept) (base-past model (passes-all .model-passes .kept1))
@@ -176,18 +168,7 @@ module _ (model image : List ℕ) (conforms : instanceAnswer model image ≡ acc
     unfolding resultBytes
     results-fit-buffer = omega (arith, bytes-length (walkResults model image place n v), results-at-most)
 
--- Every walk that is not refused meets the premises of the clauses: the instance check accepts, the record holds such a path, the start node is
--- there and at the path's start type, and the buffer has room. It reports the number of results and the number of slots opened.
-pub record Premises (model image : List ℕ) (place n v : ℕ) (buffer values : List ℕ) : Type 0 where
-  pub conforms : instanceAnswer model image ≡ accepted []
-  pub kind : PathKind
-  pub holder : ℕ
-  pub path : walkPath model place n ≡ PathOf kind holder
-  pub there : v < instanceIn image .nodes
-  pub fitting : ancestorOrSelf (modelIn model) (startOf (modelIn model) kind holder) (instanceIn image .nodeType v) ≡ true
-  pub room : itemBytes * (1 + instanceIn image .slots + instanceIn image .items) ≤ length buffer
-  pub reported : values ≡ length (walkResults model image place n v) ∷ length (walkOpened model image place n v) ∷ []
-
+-- Every walk that is not refused meets the premises of the clauses.
 pub premises-of-walk : (model image : List ℕ) (place n v : ℕ) (buffer values : List ℕ) →
     walkAnswer model image place n v buffer ≡ accepted values → Premises model image place n v buffer values
 unfolding walk28 walk29

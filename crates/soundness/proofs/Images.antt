@@ -1,14 +1,12 @@
 -- What an image's bits give: fields past the end of a table read 0, and a field is below its width's limit.
-use Prim.Native.Nat.{ℕ, zero, suc, _+_, _*_, _/_, _≤_, _<_}
+use Prim.Native.Nat.{ℕ, _+_, _*_, _≤_, _<_}
 use mathlib.Core.Path.{_≡_}
 use mathlib.Core.List.{List}
 use mathlib.Core.Bool.{false, _||_}
-use native.Mathlib.Nat.{zero-div}
 use native.Mathlib.Omega.{arith}
 use lib.Dec.{eqb}
-use lib.ListN.{length, length-take, length-drop, List·getD-eq-default}
+use lib.ListN.{length, length-take, length-drop}
 use borrow.Author.Tests.{eqb-true, not-false}
-use Rattle.packed.specs.Field.{bit, fieldOf}
 use Rattle.packed.specs.Bytes.{between}
 use Rattle.packed.proofs.Laws.{field-lt, field-past}
 use Rattle.csdl.specs.Model.{modelOf}

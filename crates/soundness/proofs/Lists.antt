@@ -3,13 +3,13 @@ use Prim.Native.Nat.{ℕ, zero, suc, _+_, _≤_, _<_, zero-le}
 use mathlib.Core.Path.{_≡_, refl, sym, ap, _∙_, subst}
 use mathlib.Core.List.{List, [], _∷_, _++_, append-nil, append-assoc, List·Memᴰ}
 use mathlib.Core.List.List·Memᴰ.{List·Memᴰ·head, List·Memᴰ·tail}
-use mathlib.Core.Bool.{Bool, true, false, cond}
+use mathlib.Core.Bool.{Bool, true, false}
 use native.Mathlib.Omega.{arith}
 use lib.ListN.{length, getD}
 use lib.Dec.{eqb}
-use borrow.Author.Tests.{eqb-true, eqb-false, eq-eqb, ne-eqb}
+use borrow.Author.Tests.{eqb-true, eq-eqb, ne-eqb}
 use Rattle.csdl.specs.Search.{oneIf, sumFrom, tab, flat, all}
-use Rattle.csdl.proofs.Logic.{sum-same}
+use Rattle.csdl.proofs.Logic.{but, but-one}
 use Rattle.soundness.specs.Lists.{All, Distinct}
 use Rattle.soundness.specs.Lists.All.{none, both}
 
@@ -112,23 +112,7 @@ sum-swap g i zero j c = sym (sum-zeros j c)
 sum-swap g i (suc n) j c = ap (λ (z : ℕ). sumFrom (λ k. g i k) j c + z) (sum-swap g (i + 1) n j c) ∙ sym
     (sum-add (λ k. g i k) (λ k. sumFrom (λ s. g s k) (i + 1) n) j c)
 
--- f, but 0 at y.
-abbrev but : (ℕ → ℕ) → ℕ → ℕ → ℕ
-but f y k = cond (eqb k y) 0 (f k)
-
-but-skip : (f : ℕ → ℕ) (y i n : ℕ) → y < i → sumFrom (but f y) i n ≡ sumFrom f i n
-but-skip f y i n h = sum-same (but f y) f i n (λ k a b. rw (ne-eqb k y (λ e. omega arith)))
-
-but-one : (f : ℕ → ℕ) (y i n : ℕ) → i ≤ y → y < i + n → sumFrom (but f y) i n + f y ≡ sumFrom f i n
-unfolding sumFrom
-but-one f y i zero h l = absurd (omega arith)
-but-one f y i (suc n) h l = go (but-one f y (i + 1) n) (eqb i y) refl
-  where
-    go : (i + 1 ≤ y → y < i + 1 + n → sumFrom (but f y) (i + 1) n + f y ≡ sumFrom f (i + 1) n) →
-        (b : Bool) → eqb i y ≡ b → cond (eqb i y) 0 (f i) + sumFrom (but f y) (i + 1) n + f y ≡ f i + sumFrom f (i + 1) n
-    go rest true q = let e : i ≡ y = eqb-true i y q in let z : f i ≡ f y = ap f e in rw q (omega (arith, but-skip f y (i + 1) n (omega arith)))
-    go rest false q = let d : i ≡ y → ⊥ = eqb-false i y q in rw q (omega (arith, rest (omega arith) (omega arith)))
-
+-- Over a list without y, the sum of f is that of f, but 0 at y.
 but-sum : (f : ℕ → ℕ) (y : ℕ) {l : List ℕ} → All (λ x. y ≡ x → ⊥) l → sum f l ≡ sum (but f y) l
 unfolding sum
 but-sum f y none = refl

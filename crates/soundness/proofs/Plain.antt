@@ -6,9 +6,9 @@ use mathlib.Core.Bool.{Bool, true, false, cond, _&&_}
 use native.Mathlib.Nat.{mod-eq-of-lt}
 use native.Mathlib.Omega.{arith}
 use lib.Dec.{eqb}
-use borrow.Author.Tests.{ne-eqb, eq-eqb}
+use borrow.Author.Tests.{ne-eqb}
 use Rattle.packed.proofs.Laws.{field-lt}
-use Rattle.csdl.specs.Search.{flat, tab}
+use Rattle.csdl.specs.Search.{tab}
 use Rattle.csdl.specs.Model.{Model}
 use Rattle.csdl.specs.Find.{structured, ancestorOrSelf}
 use Rattle.csdl.specs.Path.{Segment}

@@ -13,7 +13,7 @@ use Rattle.csdl.specs.Form.{run4cd}
 use Rattle.csdl.specs.Types.{type8, type8a}
 use Rattle.csdl.specs.Properties.{sameName, redeclares, property10, property10c, property11, property11a, property11b}
 use Rattle.csdl.specs.Instance.{Instance}
-use Rattle.csdl.specs.Conforms.{node21a, slot21b, rule21, countUnlike, nodesWith, node23, slotsOf, slot24, slot24a, slot24c, itemProperty, carriesNode, item25of, item25, node26, node26a, node26b, rule23, rule24, rule25, rule26}
+use Rattle.csdl.specs.Conforms.{node21a, slot21b, rule21, countUnlike, nodesWith, node23, slotsOf, slot24, slot24a, slot24c, carriesNode, item25of, item25, node26, node26a, node26b, rule23, rule24, rule25, rule26}
 use Rattle.csdl.specs.Relations.{Holds, Within}
 use Rattle.csdl.specs.Relations.Within.{directly, deeper}
 use Rattle.csdl.specs.Types.{rule8}
@@ -159,8 +159,7 @@ module _ (m : Model) (i : Instance) (f : ModelFacts m) (k : InstanceKept m i) (s
   unfolding item25
   item-kept s n l e =
       let b = item-within s n l e in
-      let h : item25of m i (itemProperty i n) n ≡ false = of-item m i rule25 (k .kept25) n b in
-      rw (slot-of m i (k .kept21) s n l b e) at h
+      rw (slot-of m i (k .kept21) s n l b e) at (of-item m i rule25 (k .kept25) n b)
 
   -- What is held by an integral item is a node.
   held-small : (v w : ℕ) → Holds m i v w → w < i .nodes

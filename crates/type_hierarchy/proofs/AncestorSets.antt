@@ -59,7 +59,7 @@ module _ (next : ℕ → ℕ) (set t : ℕ) where
         λ a l. let i : member r a ≡ member s a || climb next k a (b - 1) = rw less-one at (w a l) in
         rw (i, q a l, climb-test next k t a, ← e, ne-eqb b 0 n) (or-again (member set a) (eqb (b - 1) a) (climb next k a (b - 1)))
 
--- A climb over the bases as they were read is one over the bases; it starts with no set, or with t's own.
+-- A climb over the bases as they were read is one over the bases; it starts with no set.
 module _ (f g : ℕ → ℕ) (e : (u : ℕ) → f u ≡ g u) where
   climb-same : (left a t : ℕ) → climb f left a t ≡ climb g left a t
   unfolding climb
@@ -69,9 +69,6 @@ module _ (f g : ℕ → ℕ) (e : (u : ℕ) → f u ≡ g u) where
   module _ (left t r : ℕ) where
     pub alone : Members 64 r (λ a. member 0 a || climb f left a t) → Members 64 r (λ a. climb g left a t)
     alone w = λ a l. w a l ∙ rw (member-none a, climb-same left a t)
-
-    pub with-self : (s : ℕ) → Members 64 s (λ a. member 0 a || eqb t a) → Members 64 r (λ a. member s a || climb f left a t) → Members 64 r (λ a. climb g left a t || eqb t a)
-    with-self s q w = λ a l. w a l ∙ rw (q a l, member-none a, climb-same left a t) (or-comm (eqb t a) (climb g left a t))
 
 -- The sets, filled one after the other.
 module _ (test : ℕ → ℕ → Bool) where

@@ -2,7 +2,7 @@
 use Prim.Native.Nat.{ℕ, zero, suc, _-_, _<_}
 use mathlib.Core.Path.{_≡_, refl, sym, ap, _∙_}
 use mathlib.Core.List.{List}
-use native.Mathlib.Omega.{arith}
+use mathlib.Core.Logic.{_⊎_, inl, inr}
 use lib.ListN.{length, getD, set, length-set, replicate, getD-replicate}
 use lib.Seq.{getD-set-same, getD-set-other}
 use Rattle.csdl.specs.Search.{orElse}
@@ -32,15 +32,19 @@ pub record Entered (t left : ℕ) (old entered : List ℕ) : Type 0 where
   pub other : (u : ℕ) → (u ≡ t → ⊥) → getD entered u 0 ≡ getD old u 0
 
 module _ (t left : ℕ) (old : List ℕ) (s : length old ≡ 128) where
-  pub entered-new : t < 128 → getD old t 0 ≡ 0 → Entered t left old (set old t left)
+  entered-new : t < 128 → getD old t 0 ≡ 0 → Entered t left old (set old t left)
   entered-new h e = record {
     size = length-set old t left ∙ s;
     here = getD-set-same old t left 0 (rw s h) ∙ rw e;
     other = λ u n. getD-set-other old t u left 0 n;
   }
 
-  pub entered-old : (getD old t 0 ≡ 0 → ⊥) → Entered t left old old
+  entered-old : (getD old t 0 ≡ 0 → ⊥) → Entered t left old old
   entered-old e = record { size = s; here = sym (or-else-some _ left e); other = λ u n. refl }
+
+  pub entered : {A B : Type 0} (new : List ℕ) → t < 128 → A ⊎ B → (A → (new ≡ set old t left) × (getD old t 0 ≡ 0)) → (B → (new ≡ old) × (getD old t 0 ≡ 0 → ⊥)) → Entered t left old new
+  entered new h (inl a) f g = rw (f a .0) (entered-new h (f a .1))
+  entered new h (inr b) f g = rw (g b .0) (entered-old (g b .1))
 
 module _ (next : ℕ → ℕ) (left t : ℕ) (old : List ℕ) where
   pub climbed-out : length old ≡ 128 → left ≡ 0 → Climbed next left t old old

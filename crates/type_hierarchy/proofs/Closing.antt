@@ -8,7 +8,7 @@ use native.Mathlib.Omega.{arith}
 use lib.Dec.{ltb, eqb}
 use borrow.Author.Tests.{ltb-true, ltb-false, eqb-true, eqb-false}
 use Rattle.csdl.specs.Climb.{reaches}
-use Rattle.csdl.proofs.Logic.{bool-iff, or-cases, or-left, or-right, and-cases, and-both}
+use Rattle.csdl.proofs.Logic.{or-cases, or-left, or-right, and-cases, and-both}
 use Rattle.csdl.proofs.Reaching.{Reach, reaches-exact}
 use Rattle.csdl.proofs.Reaching.Reach.{in-one}
 use Rattle.type_hierarchy.proofs.Reaching.{direct, wider, after, by-way}

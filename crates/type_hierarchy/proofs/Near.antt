@@ -1,17 +1,17 @@
 -- The nearest declaration, found in one pass over the declarations. Assumes nothing.
 use Prim.Native.Nat.{ℕ, zero, suc, _+_, _-_, _≤_, _<_}
 use mathlib.Core.Path.{_≡_, refl, sym, _∙_, ap}
-use mathlib.Core.Bool.{Bool, true, false, cond, _&&_, _||_}
+use mathlib.Core.Bool.{Bool, true, false, false≢true, cond, _&&_, _||_, or-comm}
 use native.Mathlib.Numerals.{add-one}
-use native.Mathlib.Nat.{add-zero, zero-add, not-suc-le-zero}
+use native.Mathlib.Nat.{add-zero, zero-add}
 use native.Mathlib.Omega.{arith}
 use lib.Dec.{eqb, ltb}
 use borrow.Author.Tests.{eq-eqb, ne-eqb, eqb-true, eqb-false, lt-ltb}
 use Rattle.csdl.specs.Search.{firstFrom, orElse, oneIf}
 use Rattle.csdl.specs.Climb.{climb, nearest}
-use Rattle.csdl.proofs.Logic.{less-one}
-use Rattle.csdl.proofs.Climbing.{found-test, climb-test, nearest-test}
-use Rattle.type_hierarchy.specs.AncestorSets.{meets}
+use Rattle.csdl.proofs.Logic.{less-one, bool-iff, below-or-not, equal-or-not}
+use Rattle.csdl.proofs.Settle.{by-n}
+use Rattle.csdl.proofs.Climbing.{found-test, climb-test, climb-grows, nearest-test}
 use Rattle.type_hierarchy.specs.Near.{leftOr, leftAt, only}
 
 -- ---- what a climb gives, of answers f and of g, which also has k + 1 at the number w
@@ -76,9 +76,9 @@ module _ (next : ℕ → ℕ) where
       (rw (nearest-test next l t f, e t, i .0) (zeros (eqb (next t) 0)), rw (left-test f l t, e t, i .1) (zeros (eqb (next t) 0)))
 
 -- ---- a climb that meets u
-or-right : (b : Bool) → b || true ≡ true
-or-right true = refl
-or-right false = refl
+or-true : (b : Bool) → b || true ≡ true
+or-true true = refl
+or-true false = refl
 
 flipped : (x y : ℕ) → eqb x y ≡ eqb y x
 flipped x y = go (eqb x y) refl
@@ -87,29 +87,25 @@ flipped x y = go (eqb x y) refl
     go true e = e ∙ sym (eq-eqb y x (sym (eqb-true x y e)))
     go false e = e ∙ sym (ne-eqb y x (λ q. eqb-false x y e (sym q)))
 
-meets-step : (here top up : Bool) (above : Bool) (l left : ℕ) → ltb 0 left ≡ above || up → ltb 0 (leftOr (oneIf here) (suc l) (cond top 0 left)) ≡ cond top false (up || above) || here
-meets-step true top up above l left e = lt-ltb 0 (suc l) (omega arith) ∙ sym (or-right (cond top false (up || above)))
-meets-step false true up above l left e = refl
-meets-step false false true above l left e = e ∙ or-right above
-meets-step false false false true l left e = e
-meets-step false false false false l left e = e
+met-step : (here top up : Bool) (above : Bool) (l left : ℕ) → ltb 0 left ≡ above || up → ltb 0 (leftOr (oneIf here) (suc l) (cond top 0 left)) ≡ cond top false (up || above) || here
+met-step true top up above l left e = lt-ltb 0 (suc l) (omega arith) ∙ sym (or-true (cond top false (up || above)))
+met-step false true up above l left e = refl
+met-step false false true above l left e = e ∙ or-true above
+met-step false false false true l left e = e
+met-step false false false false l left e = e
 
 module _ (next : ℕ → ℕ) (u : ℕ) where
-  meets-more : (l t : ℕ) → ltb 0 (leftAt (only u) next (suc l) t) ≡ climb next l u t || eqb u t
+  met-more : (l t : ℕ) → ltb 0 (leftAt (only u) next (suc l) t) ≡ climb next l u t || eqb u t
   unfolding leftAt climb
-  meets-more zero t = rw (left-test next (only u) 0 t) (none (eqb u t) (eqb (next t) 0))
+  met-more zero t = rw (left-test next (only u) 0 t) (none (eqb u t) (eqb (next t) 0))
     where
       none : (here top : Bool) → ltb 0 (leftOr (oneIf here) 1 (cond top 0 0)) ≡ false || here
       none true top = refl
       none false true = refl
       none false false = refl
-  meets-more (suc l) t =
+  met-more (suc l) t =
       rw (left-test next (only u) (suc l) t, climb-test next l t u)
-      (meets-step (eqb u t) (eqb (next t) 0) (eqb (next t - 1) u) (climb next l u (next t - 1)) (suc l) _ (rw (flipped (next t - 1) u) (meets-more l (next t - 1))))
-
-  pub meets-left : (n t : ℕ) → 0 < n → ltb 0 (leftAt (only u) next n t) ≡ meets next n t u
-  meets-left zero t h = absurd (not-suc-le-zero h)
-  meets-left (suc l) t h = let e : suc l - 1 ≡ l = omega arith in rw (e, flipped t u) (meets-more l t)
+      (met-step (eqb u t) (eqb (next t) 0) (eqb (next t - 1) u) (climb next l u (next t - 1)) (suc l) _ (rw (flipped (next t - 1) u) (met-more l (next t - 1))))
 
 -- ---- one step of the climb to u, as the code takes it: b is what `next` gives at t
 module _ (next : ℕ → ℕ) (u t : ℕ) where
@@ -130,6 +126,45 @@ module _ (next : ℕ → ℕ) (u t : ℕ) where
   pub left-up : (left b : ℕ) → (left ≡ 0 → ⊥) → (u ≡ t → ⊥) → b ≡ next t → (b ≡ 0 → ⊥) → {r : ℕ} → r ≡ leftAt (only u) next (left - 1) (b - 1) → r ≡ leftAt (only u) next left t
   left-up zero b p n e h q = absurd (p refl)
   left-up (suc l) b p n e h q = rw (left-test next (only u) l t, ne-eqb u t n, ← e, ne-eqb b 0 h) (rw less-one at q)
+
+-- ---- a climb over n numbers, where none from n on has a next: from t it meets u, both below n, just where u is t or above it
+or-more : (a b c : Bool) → (a ≡ true → b ≡ true) → a || c ≡ true → b || c ≡ true
+or-more true b c f h = rw (f refl)
+or-more false b c f h = rw h (or-true b)
+
+module _ (next : ℕ → ℕ) (n : ℕ) (past : (t : ℕ) → n ≤ t → next t ≡ 0) (u : ℕ) (low : u < n) where
+  abbrev met : ℕ → ℕ → Bool
+  met k t = ltb 0 (leftAt (only u) next k t)
+
+  met-grows : (k t : ℕ) → met k t ≡ true → met (suc k) t ≡ true
+  met-grows zero t h = absurd (false≢true (ap (λ (x : ℕ). ltb 0 x) (left-out next u t 0 refl) ∙ h))
+  met-grows (suc k) t h = met-more next u (suc k) t ∙ or-more (climb next k u t) (climb next (suc k) u t) (eqb u t) (climb-grows next u k t) (sym (met-more next u k t) ∙ h)
+
+  met-here : (k t : ℕ) → u ≡ t → met (suc k) t ≡ true
+  met-here k t e = ap (λ (x : ℕ). ltb 0 x) (sym (left-met next u t (suc k) (λ z. omega arith) e)) ∙ lt-ltb 0 (suc k) (omega arith)
+
+  met-none : (k t : ℕ) → (u ≡ t → ⊥) → next t ≡ 0 → met k t ≡ false
+  met-none k t d e = ap (λ (x : ℕ). ltb 0 x) (sym (left-none next u t k 0 d (sym e) refl))
+
+  met-up : (k t v : ℕ) → (u ≡ t → ⊥) → next t ≡ suc v → met (suc k) t ≡ met k v
+  met-up k t v d e =
+      let same : leftAt (only u) next k v ≡ leftAt (only u) next (suc k - 1) (suc v - 1) = rw (less-one k, less-one v) in
+      ap (λ (x : ℕ). ltb 0 x) (sym (left-up next u t (suc k) (suc v) (λ z. omega arith) d (sym e) (λ z. omega arith) same))
+
+  met-follows : (k : ℕ) → ((t : ℕ) → t < n → met k t ≡ met (suc k) t) → (t : ℕ) → t < n → met (suc k) t ≡ met (suc (suc k)) t
+  met-follows k s t l = equal-or-not u t (λ e. met-here k t e ∙ sym (met-here (suc k) t e)) (λ d. go d (next t) refl)
+    where
+      beyond : (j v : ℕ) → n ≤ v → met j v ≡ false
+      beyond j v h = met-none j v (λ e. omega arith) (past v h)
+
+      go : (u ≡ t → ⊥) → (b : ℕ) → next t ≡ b → met (suc k) t ≡ met (suc (suc k)) t
+      go d zero e = met-none (suc k) t d e ∙ sym (met-none (suc (suc k)) t d e)
+      go d (suc v) e = met-up k t v d e ∙ below-or-not v n (λ h. s v h) (λ h. beyond k v h ∙ sym (beyond (suc k) v h)) ∙ sym (met-up (suc k) t v d e)
+
+  pub met-above : (t : ℕ) → t < n → ltb 0 (leftAt (only u) next n t) ≡ eqb t u || climb next n u t
+  met-above t l =
+      bool-iff (met n t) (met (suc n) t) (met-grows n t) (by-n n met met-grows met-follows (suc n) t l) ∙ met-more next u n t
+      ∙ or-comm (climb next n u t) (eqb u t) ∙ rw (flipped u t)
 
 -- ---- one number more in a search
 or-none : (b : Bool) (k r : ℕ) → orElse r (cond (b && false) (suc k) 0) ≡ r

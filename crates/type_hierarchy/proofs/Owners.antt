@@ -1,4 +1,4 @@
--- A set of the types that pass a test, asked of the owners of keys. Assumes nothing.
+-- The owners of keys as a set. Assumes nothing.
 use Prim.Native.Nat.{ℕ, zero, suc, _+_, _*_, _<_}
 use mathlib.Core.Path.{_≡_, refl, sym, ap, _∙_}
 use mathlib.Core.List.{List}
@@ -11,16 +11,11 @@ use lib.Dec.{eqb}
 use Rattle.packed.proofs.Laws.{field-lt}
 use Rattle.csdl.specs.Search.{anyFrom}
 use Rattle.csdl.specs.Tables.{keyCount, keyOwner}
-use Rattle.csdl.proofs.Logic.{bool-iff, any-same, any-found, any-of, and-cases, and-both}
+use Rattle.csdl.proofs.Logic.{bool-iff, any-found, any-of, and-cases, and-both}
 use Rattle.type_hierarchy.specs.Sets.{member, Members}
 use Rattle.type_hierarchy.specs.KeyOwners.{ownsKey, KeyOwners}
 use Rattle.type_hierarchy.proofs.SetLaws.{member-none}
 
-pub owners-same : (keys : List ℕ) (set : ℕ) (test : ℕ → Bool) → Members 64 set test
-    → anyFrom (λ k. member set (keyOwner keys k)) 0 (keyCount keys) ≡ anyFrom (λ k. test (keyOwner keys k)) 0 (keyCount keys)
-owners-same keys set test h = any-same _ _ 0 (keyCount keys) (λ k a b. h (keyOwner keys k) (field-lt keys (48 * k) 6))
-
--- ---- the owners as a set
 any-step : (test : ℕ → Bool) (i n : ℕ) → anyFrom test i (suc n) ≡ cond (test i) true (anyFrom test (i + 1) n)
 unfolding anyFrom
 any-step test i n = refl

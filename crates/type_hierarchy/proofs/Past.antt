@@ -17,8 +17,8 @@ use Rattle.csdl.specs.Model.{modelOf}
 use Rattle.csdl.specs.Find.{structured, ancestorOrSelf, ancestor, find, own, declares}
 use Rattle.type_hierarchy.proofs.Climb.{climb-none, nearest-none}
 
-base-past : (ty : List ℕ) (t : ℕ) → length ty ≤ 384 → 64 ≤ t → typeBase ty t ≡ 0
-base-past ty t l h = field-past ty (48 * t + 10) 7 (omega arith)
+pub base-past : (ty : List ℕ) (t : ℕ) → length ty ≤ 6 * t → typeBase ty t ≡ 0
+base-past ty t h = field-past ty (48 * t + 10) 7 (omega arith)
 
 climb-high : (next : ℕ → ℕ) → ((u : ℕ) → next u < 128) → (left a t : ℕ) → 128 ≤ a → climb next left a t ≡ false
 unfolding climb
@@ -43,7 +43,7 @@ module _ (ty : List ℕ) (l : length ty ≤ 384) where
 
   pub ancestor-or-self-past : (a t : ℕ) → (t ≡ a → ⊥) → 64 ≤ t → ancestorOrSelf (modelOf [] ty [] [] [] [] [] [] []) a t ≡ false
   unfolding modelOf ancestorOrSelf ancestor
-  ancestor-or-self-past a t n h = rw (ne-eqb t a n) (sym (climb-none (λ u. typeBase ty u) t 0 (sym (base-past ty t l h)) a (length ty / 6) refl))
+  ancestor-or-self-past a t n h = rw (ne-eqb t a n) (sym (climb-none (λ u. typeBase ty u) t 0 (sym (base-past ty t (omega arith))) a (length ty / 6) refl))
 
   pub ancestor-or-self-high : (a t : ℕ) → (t ≡ a → ⊥) → 128 ≤ a → ancestorOrSelf (modelOf [] ty [] [] [] [] [] [] []) a t ≡ false
   unfolding modelOf ancestorOrSelf ancestor
@@ -53,4 +53,4 @@ module _ (ty : List ℕ) (l : length ty ≤ 384) where
   unfolding modelOf find own declares
   find-past pr nm x t h =
       sym (nearest-none _ (λ u. typeBase ty u) t 0 (sym (first-none _ (λ p. rw (ne-eqb (fieldOf pr (56 * p) 6) t (λ e. omega (arith, field-lt pr (56 * p) 6)))) 0 (length pr / 7)))
-      (length ty / 6) 0 refl (sym (base-past ty t l h)) refl)
+      (length ty / 6) 0 refl (sym (base-past ty t (omega arith))) refl)

@@ -9,7 +9,7 @@ ghost use Rattle.csdl.specs.Climb.{climb};
 ghost use Rattle.csdl.specs.Model.{modelOf};
 ghost use Rattle.csdl.specs.Find.{ancestor, ancestorOrSelf};
 ghost use Rattle.type_hierarchy.specs.Sets.{member, Members};
-ghost use Rattle.type_hierarchy.specs.AncestorSets.{setsOf, ancestorsOf};
+ghost use Rattle.type_hierarchy.specs.AncestorSets.{ancestorsOf};
 ghost use Rattle.model_image.specs.Limits.{FewTypes};
 use crate::bases;
 use crate::type_sets::in_set;
@@ -37,14 +37,6 @@ fn ancestors_of(types: &[u8], t: u16) -> u64
     ensures { λ r. ⌜ ((a : ℕ) → a < 64 → member r a ≡ ancestor (modelOf [] (now (types .entry)) [] [] [] [] [] [] []) a t) ⌝ }
 {
     above(types, t, type_count(types))
-}
-
-// t and its ancestors.
-pub fn with_ancestors(types: &[u8], t: u16) -> u64
-    requires { ⌜ FewTypes (now types) ⌝ }
-    ensures { λ r. ⌜ ((a : ℕ) → a < 64 → member r a ≡ ancestorOrSelf (modelOf [] (now (types .entry)) [] [] [] [] [] [] []) a t) ⌝ }
-{
-    with_one(ancestors_of(types, t), t)
 }
 
 // The base of each type, 0 past the table.
@@ -77,22 +69,6 @@ fn with_above(bases: &[u16; 128], set: u64, t: u16, left: u16) -> u64
     with_above(bases, with_one(set, base - 1), base - 1, left - 1)
 }
 
-// For each type the types that a climb from it meets among so many as there are, it among them; 0 past the last type.
-pub fn ancestor_sets(types: &[u8]) -> [u64; 64]
-    requires { ⌜ FewTypes (now types) ⌝ }
-    ensures { λ r. ⌜ r ≡ setsOf (now (types .entry)) ⌝ }
-{
-    let n = type_count(types);
-    let bases = bases_of(types);
-    let mut ancestors = [0u64; 64];
-    let mut t: u16 = 0;
-    while t < n {
-        ancestors[t as usize] = with_above(&bases, with_one(0, t), t, n - 1);
-        t += 1;
-    }
-    ancestors
-}
-
 // For each type its ancestors; 0 past the last type.
 pub fn all_ancestors(types: &[u8]) -> [u64; 64]
     requires { ⌜ FewTypes (now types) ⌝ }
@@ -118,6 +94,14 @@ pub fn ancestors_at(types: &[u8], ancestors: &[u64], t: u16) -> u64
         return ancestors[t as usize];
     }
     ancestors_of(types, t)
+}
+
+// t and its ancestors, where those of all types are at hand.
+pub fn with_ancestors(types: &[u8], ancestors: &[u64], t: u16) -> u64
+    requires { ⌜ FewTypes (now types) × (now ancestors ≡ ancestorsOf (now types)) ⌝ }
+    ensures { λ r. ⌜ ((a : ℕ) → a < 64 → member r a ≡ ancestorOrSelf (modelOf [] (now (types .entry)) [] [] [] [] [] [] []) a t) ⌝ }
+{
+    with_one(ancestors_at(types, ancestors, t), t)
 }
 
 // Whether t is a or derives from it, where the ancestors of all types are at hand.

@@ -1,19 +1,17 @@
 -- Laws of sets of properties. Assumes nothing.
-use Prim.Native.Nat.{ℕ, zero, suc, _+_, _*_, _/_, _%_, _^_, _≤_, _<_}
+use Prim.Native.Nat.{ℕ, _+_, _*_, _/_, _%_, _^_, _≤_, _<_}
 use mathlib.Core.Path.{_≡_, refl, sym, ap, _∙_}
-use mathlib.Core.Bool.{Bool, true, false, not, cond, _&&_, _||_, or-false, false≢true}
-use native.Mathlib.Nat.{pow-zero, mod-one, mod-eq-of-lt}
-use lib.Pow.{mod-pow-add}
+use mathlib.Core.Bool.{Bool, true, false, cond, _&&_, _||_, and-false, or-true, or-false, false≢true}
 use mathlib.Core.List.{List}
 use native.Mathlib.Omega.{arith}
 use lib.Dec.{eqb, ltb}
 use lib.ListN.{length, getD, set, length-set, replicate, getD-replicate}
 use lib.Seq.{getD-set-same, getD-set-other, ext-getD}
 use borrow.Author.Tests.{eq-eqb, ne-eqb, lt-ltb, le-ltb}
-use Rattle.csdl.specs.Search.{oneIf, anyFrom, tab}
+use Rattle.csdl.specs.Search.{anyFrom, tab}
 use Rattle.csdl.proofs.Logic.{any-found, any-none, any-of, none-any, tab-length, tab-at, equal-or-not, below-or-not}
-use Rattle.type_hierarchy.specs.Sets.{member, setOf, Members}
-use Rattle.type_hierarchy.proofs.SetLaws.{member-none, set-same}
+use Rattle.type_hierarchy.specs.Sets.{member, Members}
+use Rattle.type_hierarchy.proofs.SetLaws.{member-none, bits-same}
 use Rattle.type_names.specs.Wide.{wide, MembersWide, oneOnly, unlikeWide, withRow}
 
 -- The empty set.
@@ -41,39 +39,15 @@ module _ (test : ℕ → Bool) (p q : ℕ) where
       equal-or-not p q
       (λ z. rw (← z, eq-eqb p p refl, lt-ltb p (p + 1) (omega arith), t) (or-true (ltb p p && true)))
       (λ z. rw (ne-eqb p q z, or-false (ltb q p && test q)) (below-or-not q p (λ l. rw (lt-ltb q p l, lt-ltb q (p + 1) (omega arith))) (λ l. rw (le-ltb q p l, le-ltb q (p + 1) (omega (arith, l, z))))))
-    where
-      or-true : (b : Bool) → b || true ≡ true
-      or-true true = refl
-      or-true false = refl
 
   pub below-without : test p ≡ false → ltb q p && test q ≡ ltb q (p + 1) && test q
   below-without t =
       equal-or-not q p
       (λ z. rw (z, t) (and-false (ltb p p) ∙ sym (and-false (ltb p (p + 1)))))
       (λ z. below-or-not q p (λ l. rw (lt-ltb q p l, lt-ltb q (p + 1) (omega arith))) (λ l. rw (le-ltb q p l, le-ltb q (p + 1) (omega (arith, l, z)))))
-    where
-      and-false : (b : Bool) → b && false ≡ false
-      and-false true = refl
-      and-false false = refl
 
   pub below-none : p ≡ 0 → ltb q p && test q ≡ false
   below-none e = rw (le-ltb q p (omega arith))
-
--- ---- numbers of 64 bits that have the same bits are equal
-digit : (x : ℕ) → x < 2 → oneIf (eqb x 1) ≡ x
-digit zero h = refl
-digit (suc zero) h = refl
-digit (suc (suc x)) h = absurd (omega arith)
-
-low-set : (a n : ℕ) → setOf (λ i. member a i) n ≡ a % 2 ^ n
-unfolding setOf member
-low-set a zero = rw (pow-zero, mod-one)
-low-set a (suc n) =
-    let one : suc n ≡ 1 + n = omega arith in
-    rw (digit (a / 2 ^ n % 2) (omega arith), low-set a n, one) (sym (mod-pow-add a 1 n))
-
-bits-same : (a b : ℕ) → a < 2 ^ 64 → b < 2 ^ 64 → ((i : ℕ) → i < 64 → member a i ≡ member b i) → a ≡ b
-bits-same a b h k e = sym (mod-eq-of-lt h) ∙ sym (low-set a 64) ∙ set-same (λ i. member a i) (λ i. member b i) 64 e ∙ low-set b 64 ∙ mod-eq-of-lt k
 
 only-not : (a b : Bool) → oneOnly a b ≡ true → a ≡ b → ⊥
 only-not true true e q = false≢true e

@@ -1,7 +1,7 @@
 -- What each name means at a type.
 use Prim.Native.Nat.{ℕ, _+_, _<_}
 use mathlib.Core.Path.{_≡_}
-use mathlib.Core.Bool.{Bool, _&&_}
+use mathlib.Core.Bool.{_&&_}
 use mathlib.Core.List.{List}
 use lib.Dec.{eqb}
 use lib.ListN.{length, getD}

@@ -1,4 +1,4 @@
--- The walk over the tables of an instance is the walk over its image. Assumes nothing.
+-- The walk of a node's own item is the walk from the node. Assumes nothing.
 use Prim.Native.Nat.{ℕ, _*_}
 use mathlib.Core.Path.{_≡_, ap}
 use mathlib.Core.List.{List, [], _∷_}
@@ -11,30 +11,29 @@ use Rattle.csdl.specs.Image.{modelIn}
 use Rattle.csdl.specs.Instance.{Instance, instanceOf, instanceIn, nodeTypeIn}
 use Rattle.csdl.specs.Walk.{Item, walked, opened, bytesOfItem}
 use Rattle.csdl.specs.Walk.Item.{value}
-use Rattle.instance_image.specs.Tables.{nodesIn, slotsIn, itemsIn}
+use Rattle.instance_image.specs.Tables.{nodesIn}
 use Rattle.walk_step.specs.Seen.{itemOf, pathFrom, written, openings}
 use Rattle.walk.specs.Along.{bytesAlong, openedAlong}
 
--- A node's own item is not null.
-own-item : (nodes : List ℕ) (v : ℕ) → itemOf (nodeTypeIn nodes v) v ≡ value (nodeTypeIn nodes v) v
-unfolding itemOf
-own-item nodes v = rw (ne-eqb (nodeTypeIn nodes v) 255 (λ e. omega (arith, field-lt nodes (32 * v) 6)))
-
-module _ (image : List ℕ) where
-  abbrev no : List ℕ
-  no = nodesIn image
+module _ (model image : List ℕ) (first count v : ℕ) where
+  abbrev m : Model
+  m = modelIn model
 
   abbrev i : Instance
-  i = instanceOf no (slotsIn image) (itemsIn image)
+  i = instanceIn image
 
-  module _ (model : List ℕ) (first count v : ℕ) where
-    abbrev m : Model
-    m = modelIn model
+  abbrev t : ℕ
+  t = nodeTypeIn (nodesIn image) v
 
-    pub written-is : written m i first count (nodeTypeIn no v) v ≡ bytesAlong model image first count v
-    unfolding written bytesAlong pathFrom instanceIn instanceOf
-    written-is = ap (λ (x : Item). flat (λ y. bytesOfItem y) (walked m i (pathFrom m first count) (x ∷ []))) (own-item no v)
+  -- It is not null.
+  own-item : itemOf t v ≡ value (i .nodeType v) v
+  unfolding itemOf instanceIn instanceOf
+  own-item = rw (ne-eqb t 255 (λ e. omega (arith, field-lt (nodesIn image) (32 * v) 6)))
 
-    pub openings-is : openings m i first count (nodeTypeIn no v) v ≡ openedAlong model image first count v
-    unfolding openings openedAlong pathFrom instanceIn instanceOf
-    openings-is = ap (λ (x : Item). opened m i (pathFrom m first count) (x ∷ [])) (own-item no v)
+  pub written-is : written m i first count t v ≡ bytesAlong model image first count v
+  unfolding written bytesAlong pathFrom
+  written-is = ap (λ (x : Item). flat (λ y. bytesOfItem y) (walked m i (pathFrom m first count) (x ∷ []))) own-item
+
+  pub openings-is : openings m i first count t v ≡ openedAlong model image first count v
+  unfolding openings openedAlong pathFrom
+  openings-is = ap (λ (x : Item). opened m i (pathFrom m first count) (x ∷ [])) own-item

@@ -17,13 +17,13 @@ use csdl::InstanceAnswer;
 use csdl::WalkAnswer;
 use instance_check::check_instance;
 use instance_image::fields::node_type;
-use instance_image::tables::items_of;
 use instance_image::tables::nodes_of;
-use instance_image::tables::slots_of;
 use model_image::layout::Layout;
 use model_image::layout::layout_of;
+use model_image::layout::types_of;
+use type_hierarchy::ancestors::all_ancestors;
 use walk_items::Done;
-use walk_items::Here;
+use walk_items::Position;
 use walk_items::walk_from;
 use walk_path::choose;
 use walk_path::chosen_path;
@@ -46,18 +46,15 @@ fn walk_along(
     ensures { λ r. ⌜ r .end ≡ length (bytesAlong (now (model .entry)) (now (instance .entry)) first count v) ⌝ }
     ensures { λ r. ⌜ r .opened ≡ length (openedAlong (now (model .entry)) (now (instance .entry)) first count v) ⌝ }
 {
-    let nodes = nodes_of(instance);
-    let slots = slots_of(instance);
-    let items = items_of(instance);
-    let here = Here {
+    let ancestors = all_ancestors(types_of(model, at));
+    let here = Position {
         k: first,
         left: count,
-        t: node_type(nodes, v) as u8,
+        t: node_type(nodes_of(instance), v) as u8,
         v: v as u32,
-        ancestors: 0,
         end: 0,
     };
-    walk_from(model, at, nodes, slots, items, here, results)
+    walk_from(model, at, instance, &ancestors, here, results)
 }
 
 // The walk through an instance that conforms to its model.

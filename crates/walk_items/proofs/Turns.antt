@@ -12,20 +12,20 @@ use Rattle.csdl.specs.Search.{tab}
 use Rattle.csdl.specs.Model.{Model}
 use Rattle.csdl.specs.Path.{Segment, segmentAt}
 use Rattle.csdl.specs.Image.{modelIn}
-use Rattle.csdl.specs.Instance.{Instance, instanceOf}
+use Rattle.csdl.specs.Instance.{Instance, instanceIn, image20}
 use Rattle.csdl.specs.Walk.{Item, bytesOfNumber, bytesOfItem}
 use Rattle.csdl.specs.Walk.Item.{value}
 use Rattle.csdl.specs.Walk.Origin.{at-slot}
 use Rattle.csdl.proofs.Logic.{or-no, and-cases}
 use Rattle.model_image.specs.Laid.{Laid, typesIn}
 use Rattle.model_image.specs.declared.layout.Layout.{Layout}
-use Rattle.instance_image.specs.Limits.{FewNodes}
-use Rattle.walk_step.specs.Seen.{nullCode, itemOf, pathFrom, written, openings, stopsAt, nextAt, itemIn, StepIs, Ancestors}
+use Rattle.type_hierarchy.specs.AncestorSets.{ancestorsOf}
+use Rattle.walk_step.specs.Seen.{nullCode, itemOf, pathFrom, written, openings, stopsAt, nextAt, itemIn, StepIs}
 use Rattle.walk_step.specs.declared.Next.{Next}
-use Rattle.walk_step.proofs.Moves.{step-is, item-set}
-use Rattle.walk_items.specs.declared.Here.{Here}
+use Rattle.walk_step.proofs.Moves.{step-is}
+use Rattle.walk_items.specs.declared.Position.{Position}
 use Rattle.walk_items.specs.declared.Done.{Done}
-use Rattle.walk_items.specs.From.{nextHere, writtenFrom, openedFrom}
+use Rattle.walk_items.specs.From.{nextPosition, writtenFrom, openedFrom}
 use Rattle.walk_items.proofs.Going.{rest-all, Going, going-start, going-fits, going-few, going-more, going-end}
 use Rattle.walk_items.proofs.Single.{bytes, opens, bytes-null, opens-null, bytes-end, opens-end, bytes-step, count-step}
 
@@ -48,19 +48,19 @@ write-is out at t v =
     rw (a, b, c)
 
 -- What item q of those that come next writes and opens.
-abbrev writtenBy : Model → Instance → Here → List ℕ → Next → ℕ → List ℕ
-writtenBy m i here items next q = written m i (here .k + 1) (here .left - 1) (itemIn items next q .t) (itemIn items next q .v)
+abbrev writtenBy : Model → Instance → Position → Next → ℕ → List ℕ
+writtenBy m i here next q = written m i (here .k + 1) (here .left - 1) (itemIn i next q .t) (itemIn i next q .v)
 
-abbrev openedBelow : Model → Instance → Here → List ℕ → Next → ℕ → List ℕ
-openedBelow m i here items next q = openings m i (here .k + 1) (here .left - 1) (itemIn items next q .t) (itemIn items next q .v)
+abbrev openedBelow : Model → Instance → Position → Next → ℕ → List ℕ
+openedBelow m i here next q = openings m i (here .k + 1) (here .left - 1) (itemIn i next q .t) (itemIn i next q .v)
 
 -- The loop over the items that come next: what was written to out₀ and opened before the j-th of them.
-abbrev Round : Model → Instance → Here → List ℕ → Next → List ℕ → List ℕ → ℕ → ℕ → ℕ → Type 0
-Round m i here items next out₀ out end o j =
-    Going (writtenBy m i here items next) (openedBelow m i here items next) (writtenFrom m i here) (openedFrom m i here) out₀ (here .end) (next .first) (next .count)
+abbrev Round : Model → Instance → Position → Next → List ℕ → List ℕ → ℕ → ℕ → ℕ → Type 0
+Round m i here next out₀ out end o j =
+    Going (writtenBy m i here next) (openedBelow m i here next) (writtenFrom m i here) (openedFrom m i here) out₀ (here .end) (next .first) (next .count)
     out end o j
 
-module _ (m : Model) (i : Instance) (here : Here) where
+module _ (m : Model) (i : Instance) (here : Position) where
   abbrev k : ℕ
   k = here .k
 
@@ -112,78 +112,76 @@ module _ (m : Model) (i : Instance) (here : Here) where
     unfolding itemOf
     is-value = rw not-null
 
-    begin : (items : List ℕ) (next : Next) → StepIs m i (segmentAt m k) t v items next → {out : List ℕ} →
-        here .end + length (writtenFrom m i here) ≤ length out → length (openedFrom m i here) < 65536 → Round m i here items next out out (here .end) (next .opened) 0
+    begin : (next : Next) → StepIs m i (segmentAt m k) t v next → {out : List ℕ} →
+        here .end + length (writtenFrom m i here) ≤ length out → length (openedFrom m i here) < 65536 → Round m i here next out out (here .end) (next .opened) 0
     unfolding written openings
-    begin items next s fit few =
+    begin next s fit few =
         let g = segmentAt m k in
         let gs = pathFrom m (k + 1) (left - 1) in
         let first = next .first in
         let count = next .count in
-        let ref : ℕ → ℕ = λ q. itemIn items next q .t in
-        let handle : ℕ → ℕ = λ q. itemIn items next q .v in
+        let ref : ℕ → ℕ = λ q. itemIn i next q .t in
+        let handle : ℕ → ℕ = λ q. itemIn i next q .v in
         let a = ap₂ (λ (l : List Segment) (x : Item). bytes m i l x) path-more is-value
-        ∙ bytes-step m i g gs t v ref handle first count (s .next-is) ∙ rest-all (writtenBy m i here items next) first count in
+        ∙ bytes-step m i g gs t v ref handle first count (s .next-is) ∙ rest-all (writtenBy m i here next) first count in
         let b = ap₂ (λ (l : List Segment) (x : Item). length (opens m i l x)) path-more is-value
         ∙ count-step m i g gs t v ref handle first count (s .next-is)
-        ∙ ap₂ _+_ (sym (s .opening-is)) (ap length (rest-all (openedBelow m i here items next) first count)) in
+        ∙ ap₂ _+_ (sym (s .opening-is)) (ap length (rest-all (openedBelow m i here next) first count)) in
         going-start a b fit few
 
--- What the walk of an item asks of the tables and the buffer.
-abbrev Asked : List ℕ → Layout → List ℕ → List ℕ → List ℕ → Here → List ℕ → Type 0
-Asked model at nodes slots items here out =
-    (Laid model at × FewNodes nodes × (here .k + here .left < 65536) × Ancestors (typesIn model) (here .t) (here .ancestors))
-    × ((here .end + length (writtenFrom (modelIn model) (instanceOf nodes slots items) here) ≤ length out)
-    × (length (openedFrom (modelIn model) (instanceOf nodes slots items) here) < 65536))
+-- What the walk of an item asks of the images, the table of ancestors and the buffer.
+abbrev Asked : List ℕ → Layout → List ℕ → List ℕ → Position → List ℕ → Type 0
+Asked model at image ancestors here out =
+    (Laid model at × (image20 image ≡ false) × (ancestors ≡ ancestorsOf (typesIn model)) × (here .k + here .left < 65536))
+    × ((here .end + length (writtenFrom (modelIn model) (instanceIn image) here) ≤ length out)
+    × (length (openedFrom (modelIn model) (instanceIn image) here) < 65536))
 
 -- What it gives: the buffer, where the results end, how many slots were opened.
-abbrev Given : List ℕ → List ℕ → List ℕ → List ℕ → Here → List ℕ → List ℕ → Done → Type 0
-Given model nodes slots items here out out′ d =
-    (out′ ≡ sets out (here .end) (writtenFrom (modelIn model) (instanceOf nodes slots items) here))
-    × ((d .end ≡ here .end + length (writtenFrom (modelIn model) (instanceOf nodes slots items) here))
-    × (d .opened ≡ length (openedFrom (modelIn model) (instanceOf nodes slots items) here)))
+abbrev Given : List ℕ → List ℕ → Position → List ℕ → List ℕ → Done → Type 0
+Given model image here out out′ d =
+    (out′ ≡ sets out (here .end) (writtenFrom (modelIn model) (instanceIn image) here))
+    × ((d .end ≡ here .end + length (writtenFrom (modelIn model) (instanceIn image) here))
+    × (d .opened ≡ length (openedFrom (modelIn model) (instanceIn image) here)))
 
 -- The loop before the j-th of the items that come next.
-pub record Turn (model : List ℕ) (at : Layout) (nodes slots items : List ℕ) (here : Here) (next : Next) (out₀ out : List ℕ) (end o j : ℕ) : Type 0 where
+pub record Turn (model : List ℕ) (at : Layout) (image ancestors : List ℕ) (here : Position) (next : Next) (out₀ out : List ℕ) (end o j : ℕ) : Type 0 where
   pub laid : Laid model at
-  pub few-nodes : FewNodes nodes
+  pub formed : image20 image ≡ false
+  pub table : ancestors ≡ ancestorsOf (typesIn model)
   pub few-segments : here .k + here .left < 65536
   pub some : 0 < here .left
   pub few-items : next .first + next .count < 65536
-  pub set : Ancestors (typesIn model) (next .t) (next .ancestors)
-  pub round : Round (modelIn model) (instanceOf nodes slots items) here items next out₀ out end o j
+  pub round : Round (modelIn model) (instanceIn image) here next out₀ out end o j
 
-module _ (model : List ℕ) (at : Layout) (nodes slots items : List ℕ) (here : Here) (out : List ℕ) (asked : Asked model at nodes slots items here out) where
+module _ (model : List ℕ) (at : Layout) (image ancestors : List ℕ) (here : Position) (out : List ℕ) (asked : Asked model at image ancestors here out) where
   -- Where the walk stops.
   module _ (h : stopsAt (here .left) (here .t) (here .v) ≡ true) where
     pub last-fits : here .end + 4 ≤ length out
-    last-fits = stop-fits (modelIn model) (instanceOf nodes slots items) here h (asked .1 .0)
+    last-fits = stop-fits (modelIn model) (instanceIn image) here h (asked .1 .0)
 
     pub last-is : {out′ : List ℕ} {d : Done} → out′ ≡ sets out (here .end) (bytesOfItem (value (here .t) (here .v))) → (d .end ≡ here .end + 4) × (d .opened ≡ 0) →
-        Given model nodes slots items here out out′ d
-    last-is e f = stop-is (modelIn model) (instanceOf nodes slots items) here h out e (f .0) (f .1)
+        Given model image here out out′ d
+    last-is e f = stop-is (modelIn model) (instanceIn image) here h out e (f .0) (f .1)
 
   -- Where it goes on.
   pub turn-start : stopsAt (here .left) (here .t) (here .v) ≡ false → {next : Next} →
-      next ≡ nextAt (modelIn model) (instanceOf nodes slots []) (here .k) (here .t) (here .v) (next .ancestors) → Ancestors (typesIn model) (next .t) (next .ancestors) →
-      Turn model at nodes slots items here next out out (here .end) (next .opened) 0
-  turn-start h {next} e a =
+      next ≡ nextAt (modelIn model) (instanceIn image) (here .k) (here .t) (here .v) → Turn model at image ancestors here next out out (here .end) (next .opened) 0
+  turn-start h {next} e =
       let m = modelIn model in
-      let i = instanceOf nodes slots items in
-      let s : StepIs m i (segmentAt m (here .k)) (here .t) (here .v) items next =
-      rw e (step-is m nodes slots items (here .k) (here .t) (here .v) (next .ancestors) (not-null m i here h)) in
+      let i = instanceIn image in
+      let s : StepIs m i (segmentAt m (here .k)) (here .t) (here .v) next = rw e (step-is m image (here .k) (here .t) (here .v) (not-null m i here h)) in
       record {
         laid = asked .0 .0;
-        few-nodes = asked .0 .1;
-        few-segments = asked .0 .2;
+        formed = asked .0 .1;
+        table = asked .0 .2;
+        few-segments = asked .0 .3;
         some = some-left m i here h;
         few-items = s .small;
-        set = a;
-        round = begin m i here h items next s (asked .1 .0) (asked .1 .1);
+        round = begin m i here h next s (asked .1 .0) (asked .1 .1);
       }
 
-module _ {model : List ℕ} {at : Layout} {nodes slots items : List ℕ} {here : Here} {next : Next} {out₀ out : List ℕ} {end o j : ℕ}
-    (turn : Turn model at nodes slots items here next out₀ out end o j) where
+module _ {model : List ℕ} {at : Layout} {image ancestors : List ℕ} {here : Position} {next : Next} {out₀ out : List ℕ} {end o j : ℕ}
+    (turn : Turn model at image ancestors here next out₀ out end o j) where
   module _ (h : j < next .count) where
     pub turn-number : next .first + j < 65536
     turn-number = omega (arith, turn .few-items)
@@ -195,31 +193,31 @@ module _ {model : List ℕ} {at : Layout} {nodes slots items : List ℕ} {here :
     turn-less = omega arith
 
     -- The walk of the item at hand.
-    module _ {there : Here} (e : there ≡ nextHere here (itemIn items next (next .first + j)) end) where
-      pub turn-asks : {left : ℕ} → here .left ≡ left → (there .left < left) × Asked model at nodes slots items there out
+    module _ {there : Position} (e : there ≡ nextPosition here (itemIn (instanceIn image) next (next .first + j)) end) where
+      pub turn-asks : {left : ℕ} → here .left ≡ left → (there .left < left) × Asked model at image ancestors there out
       turn-asks q =
           let a = turn .some in
           let b = turn .few-segments in
           rw (e, ← q)
-          (omega arith, ((turn .laid, turn .few-nodes, omega arith, item-set _ _ _ _ (turn .set)), (going-fits (turn .round) h, omega (arith, going-few (turn .round) h))))
+          (omega arith, ((turn .laid, turn .formed, turn .table, omega arith), (going-fits (turn .round) h, omega (arith, going-few (turn .round) h))))
 
-      module _ {out′ : List ℕ} {d : Done} (g : Given model nodes slots items there out out′ d) where
-        given : Given model nodes slots items (nextHere here (itemIn items next (next .first + j)) end) out out′ d
+      module _ {out′ : List ℕ} {d : Done} (g : Given model image there out out′ d) where
+        given : Given model image (nextPosition here (itemIn (instanceIn image) next (next .first + j)) end) out out′ d
         given = rw e at g
 
         pub turn-opened : o + d .opened < 65536
         turn-opened = rw (given .1 .1) (going-few (turn .round) h)
 
-        pub turn-more : Turn model at nodes slots items here next out₀ out′ (d .end) (o + d .opened) (j + 1)
+        pub turn-more : Turn model at image ancestors here next out₀ out′ (d .end) (o + d .opened) (j + 1)
         turn-more = record {
           laid = turn .laid;
-          few-nodes = turn .few-nodes;
+          formed = turn .formed;
+          table = turn .table;
           few-segments = turn .few-segments;
           some = turn .some;
           few-items = turn .few-items;
-          set = turn .set;
           round = going-more (turn .round) h (given .0) (given .1 .0) (given .1 .1);
         }
 
-  pub turn-end : next .count ≤ j → {d : Done} → d .end ≡ end → d .opened ≡ o → Given model nodes slots items here out₀ out d
+  pub turn-end : next .count ≤ j → {d : Done} → d .end ≡ end → d .opened ≡ o → Given model image here out₀ out d
   turn-end h e f = let g = going-end (turn .round) h in (g .0, (e ∙ g .1 .0, f ∙ g .1 .1))

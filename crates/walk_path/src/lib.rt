@@ -123,7 +123,7 @@ fn chosen_start(model: &[u8], at: Layout, chosen: Chosen) -> u16
     ensures { λ r. ⌜ r ≡ chosenStart (modelIn (now (model .entry))) chosen ⌝ }
 {
     match chosen {
-        Chosen::NoPath => 0,
+        Chosen::NoPath => 64,
         Chosen::PathOf { kind, holder } => start_in(model, at, kind, holder),
     }
 }

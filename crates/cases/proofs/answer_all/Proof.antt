@@ -1,4 +1,3 @@
-use native.Mathlib.Omega.{arith}
 use borrow.Author.Needs.{needs}
 use Rattle.cases.proofs.answer_all.Statement.{statement}
 use Rattle.cases.proofs.answer_all.Tie as tie

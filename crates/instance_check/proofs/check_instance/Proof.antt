@@ -6,17 +6,8 @@ use borrow.Author.Needs.{needs}
 use Rattle.instance_check.proofs.check_instance.Statement.{statement}
 use Rattle.instance_check.proofs.check_instance.Tie as tie
 
-check-rules-requires : tie.Need-check-rules-requires
-check-rules-requires c κs = search needs
-
-enum-told : tie.Need-enum-told
-enum-told c = search needs
-
 check-20-to-26-requires : tie.Need-check-20-to-26-requires
 check-20-to-26-requires c κs = model-passes (c .before .before .before .before .before .args .model .now) _ _ _ (c .before .before .check-rules .ensures) (c .enum-told .given .1) .kept1
-
-enum-known-answer : tie.Need-enum-known-answer
-enum-known-answer c = search needs
 
 returns : tie.Need-returns
 unfolding instanceAnswer instanceThen
@@ -32,9 +23,9 @@ pub check-instance-spec : {M : Type 1} → statement M
 check-instance-spec =
     tie.close
     (tie.spec
-    check-rules-requires
-    enum-told
+    (λ c κs. search needs)
+    (λ c. search needs)
     check-20-to-26-requires
-    enum-known-answer
+    (λ c. search needs)
     returns
     returns-2)

@@ -15,7 +15,7 @@ first-within-requires c κs =
     let s = c .before .before .before .before .before .before .before .before .before .before .before .before in
     let a = s .args in
     let n : c .node-count .result ≡ nodeCount (a .nodes .now) = c .node-count .ensures .0 in
-    (search needs, rw n (node-in-le (a .nodes .now) (a .slots .now) (a .owners .now) _ (s .pre .3) (s .pre .5) (tabulates _ _ _ (c .before .before .before .before .before .nodes-of-slots .ensures))))
+    (search needs, rw n (node-in-le (a .nodes .now) (a .slots .now) (a .item-slots .now) _ (s .pre .3) (s .pre .5) (tabulates _ _ _ (c .before .before .before .before .before .nodes-of-slots .ensures))))
 
 returns : tie.Need-returns
 unfolding instanceOf slotOfItem nodeOfSlot
@@ -24,7 +24,7 @@ returns c =
     let a = s .args in
     let m = modelOf [] (a .types .now) (a .properties .now) [] [] [] [] [] [] in
     let i = instanceOf (a .nodes .now) (a .slots .now) (a .items .now) in
-    let same = node-in-same (a .nodes .now) (a .slots .now) (a .owners .now) _ (s .pre .3) (s .pre .5) (tabulates _ _ _ (c .before .before .before .before .before .before .nodes-of-slots .ensures)) in
+    let same = node-in-same (a .nodes .now) (a .slots .now) (a .item-slots .now) _ (s .pre .3) (s .pre .5) (tabulates _ _ _ (c .before .before .before .before .before .before .nodes-of-slots .ensures)) in
     let t = c .before .before .before .before .before .held-nodes .ensures in
     let e = c .first-within .ensures .0 in
     (rw (c .before .node-count .ensures .0, c .before .before .item-count .ensures .0) at e ∙ first-26-same m i _ _ (λ k h. same k (omega (arith, s .pre .4, h))) (λ k h. t k h), search needs)

@@ -27,7 +27,7 @@ unfolding node26In
 returns-2 c =
     let s = c .before .before .before .before .before .before .before .before .before .before in
     let a = s .args in
-    let from = nodeIn (a .slots .now) (a .nodes .now) in
+    let from = nodeIn (a .item-slots .now) (a .slot-nodes .now) in
     let to = entry (a .to .now) in
     let t = c .before .before .before .before .before .before .held-times in
     let h = c .before .before .holders-of in (

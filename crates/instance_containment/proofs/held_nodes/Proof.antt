@@ -12,12 +12,12 @@ use Rattle.instance_containment.proofs.held_nodes.Statement.{statement}
 use Rattle.instance_containment.proofs.held_nodes.Tie as tie
 
 abbrev Inv-loop : tie.InvT-loop
-Inv-loop types properties nodes slots items owners integrals array₀ n k₀ array k =
+Inv-loop types properties nodes slots items item-slots integrals array₀ n k₀ array k =
     (k ≤ n) × (n ≤ 2048) × (length types ≤ 384) × (length properties ≤ 3584) × (length nodes ≤ 1024) × (length array ≡ 2048)
     × ((w : ℕ) → w < k → getD array w 0 ≡ heldBy (modelOf [] types properties [] [] [] [] [] []) (instanceOf nodes slots items) w)
 
 abbrev μ-loop : tie.MeasureT-loop
-μ-loop types properties nodes slots items owners integrals array₀ n k₀ array k = n - k
+μ-loop types properties nodes slots items item-slots integrals array₀ n k₀ array k = n - k
 
 item-property-requires : tie.Need-item-property-requires Inv-loop μ-loop
 item-property-requires c κs = (search needs, c .before .before .before .before .before .before .before .before .before .before .pre .4)

@@ -13,10 +13,10 @@ use Rattle.instance_containment.proofs.holders_of.Statement.{statement}
 use Rattle.instance_containment.proofs.holders_of.Tie as tie
 
 abbrev Inv-loop : tie.InvT-loop
-Inv-loop slots nodes to c array₀ k₀ array k = (k ≤ c) × Tabulates (latestIn (λ u. heldRun (entry to) u) (λ u. nodeIn slots nodes u) c k) 256 array
+Inv-loop item-slots slot-nodes to c array₀ k₀ array k = (k ≤ c) × Tabulates (latestIn (λ u. heldRun (entry to) u) (λ u. nodeIn item-slots slot-nodes u) c k) 256 array
 
 abbrev μ-loop : tie.MeasureT-loop
-μ-loop slots nodes to c array₀ k₀ array k = k
+μ-loop item-slots slot-nodes to c array₀ k₀ array k = k
 
 loop-holds : tie.Need-loop-holds Inv-loop μ-loop
 loop-holds c = (search needs, latest-none _ _ _ _ _ (omega arith))
@@ -28,7 +28,7 @@ loop-again c =
     let l = c .before .before .before .before .before .before .before .before .loop in
     let r = c .before .before .before .before .before .before .read-at .ensures in (
       search needs,
-      latest-down (λ u. heldRun to u) (λ u. nodeIn (a .slots .now) (a .nodes .now) u) (a .c) 256 (l .k - 1) (l .k) _ _ (omega arith)
+      latest-down (λ u. heldRun to u) (λ u. nodeIn (a .item-slots .now) (a .slot-nodes .now) u) (a .c) 256 (l .k - 1) (l .k) _ _ (omega arith)
           (c .before .before .before .before .less-one .ensures ∙ ap (λ (x : ℕ). x - 1) r) (c .before .before .before .one-if .ensures ∙ ap (λ (x : ℕ). oneIf (not (eqb x 0))) r) (l .array)
           (c .before .put-run .last .0) (omega arith) _ (c .before .before .node-of .ensures) (l .inv .1) (c .before .put-run .ensures),
     )
@@ -36,7 +36,7 @@ loop-again c =
 returns : tie.Need-returns Inv-loop μ-loop
 returns c =
     let a = c .before .before .before .before .before .args in
-    latest-all _ _ _ _ (c .before .loop .k) _ _ (omega arith) (λ w. holder-run (nodeIn (a .slots .now) (a .nodes .now)) (entry (a .to .now)) w (a .c) 0) (c .before .loop .inv .1)
+    latest-all _ _ _ _ (c .before .loop .k) _ _ (omega arith) (λ w. holder-run (nodeIn (a .item-slots .now) (a .slot-nodes .now)) (entry (a .to .now)) w (a .c) 0) (c .before .loop .inv .1)
 
 pub holders-of-spec : {M : Type 1} → statement M
 holders-of-spec =

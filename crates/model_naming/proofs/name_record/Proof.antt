@@ -1,4 +1,4 @@
-use mathlib.Core.Path.{_≡_, sym, _∙_}
+use mathlib.Core.Path.{_∙_}
 use Rattle.model_naming.proofs.Names.{name-bytes}
 use borrow.Author.Needs.{needs}
 use Rattle.model_naming.proofs.name_record.Statement.{statement}

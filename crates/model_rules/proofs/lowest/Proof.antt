@@ -1,10 +1,5 @@
 use native.Mathlib.Omega.{arith}
-use Rattle.csdl.specs.Model.Table.{segment-table}
 use Rattle.model_rules.specs.Stages.{ruleNo}
-use Rattle.model_rules.proofs.Finding.{few-found}
-use Rattle.model_image.proofs.Laid.{opened}
-use Rattle.model_rules.proofs.Found.{few-places}
-use Rattle.model_rules.proofs.Along.{lowest-14, few-segments, can-resolve}
 use Rattle.model_rules.proofs.Last.{last-stage, unchanged}
 use borrow.Author.Needs.{needs}
 use Rattle.model_rules.proofs.lowest.Statement.{statement}
@@ -54,59 +49,80 @@ returns-11 : tie.Need-returns-11
 unfolding ruleNo
 returns-11 c = let e = c .before .match .keys11 in (rw e (c .lowest-13 .ensures), (λ h. absurd (omega (arith, e, h)), unchanged))
 
-first-14-requires : tie.Need-first-14-requires
-first-14-requires c κs =
-    let p = c .before .before .before .before .before .pre in
-    let l = opened (p .0) in
-    (p .0, p .1, can-resolve l (rw (c .before .match .keys12) at (p .4)), omega (arith, few-segments l, p .6))
-
-place-found-requires : tie.Need-place-found-requires
-place-found-requires c κs = let l = opened (c .before .before .before .before .before .before .before .before .pre .0) in (few-places l segment-table, few-found _ (c .before .before .first-14 .ensures .0) (few-segments l))
-
 returns-12 : tie.Need-returns-12
 unfolding ruleNo
-returns-12 c = (rw (c .before .before .before .before .before .match .keys12) (lowest-14 (opened (c .before .before .before .before .before .before .before .before .before .pre .0)) (c .before .before .before .first-14 .ensures .0) (c .place-found .ensures)), (λ h. c .before .before .before .first-14 .ensures .1 .0, (λ n. absurd (n (c .before .before .before .before .before .match .keys12)), c .before .before .before .first-14 .ensures .1 .1 .0, c .before .before .before .first-14 .ensures .1 .1 .1)))
+returns-12 c =
+    let e = c .before .before .before .before .match .keys12 in
+    let r = c .before .before .lowest-14 .ensures in
+    (rw e (r .0), (λ h. r .1 .0, (λ n. absurd (n e), r .1 .1 .0, r .1 .1 .1)))
 
 returns-13 : tie.Need-returns-13
 unfolding ruleNo
-returns-13 c = let e = c .before .before .match .keys13 in (rw e (c .lowest-15 .ensures), (λ h. c .before .before .before .before .before .before .pre .5 (omega (arith, e)), unchanged))
+returns-13 c = let e = c .before .before .match .keys13 in (rw e (c .lowest-15 .ensures), (λ h. c .before .before .before .before .before .before .before .pre .4 .codes-kept (omega (arith, e)), unchanged))
 
 returns-14 : tie.Need-returns-14
 unfolding ruleNo
-returns-14 c = let e = c .before .before .match .keys14 in (rw e (c .lowest-16 .ensures), (λ h. c .before .before .before .before .before .before .pre .5 (omega (arith, e)), unchanged))
+returns-14 c = let e = c .before .before .match .keys14 in (rw e (c .lowest-16 .ensures), (λ h. c .before .before .before .before .before .before .before .pre .4 .codes-kept (omega (arith, e)), unchanged))
 
 returns-15 : tie.Need-returns-15
 unfolding ruleNo
-returns-15 c = let e = c .before .before .match .keys15 in (rw e (c .lowest-17 .ensures), (λ h. c .before .before .before .before .before .before .pre .5 (omega (arith, e)), unchanged))
+returns-15 c = let e = c .before .before .match .keys15 in (rw e (c .lowest-17 .ensures), (λ h. c .before .before .before .before .before .before .before .pre .4 .codes-kept (omega (arith, e)), unchanged))
 
 returns-16 : tie.Need-returns-16
 unfolding ruleNo
-returns-16 c = let e = c .before .match .keys16 in (rw e (c .lowest-18 .ensures), (λ h. c .before .before .before .before .before .pre .5 (omega (arith, e)), unchanged))
+returns-16 c = let e = c .before .match .keys16 in (rw e (c .lowest-18 .ensures), (λ h. c .before .before .before .before .before .before .pre .4 .codes-kept (omega (arith, e)), unchanged))
 
 returns-17 : tie.Need-returns-17
 unfolding ruleNo
-returns-17 c = let e = last-stage (c .before .before .before .before .before .before .pre .2) (c .before .before .before .before .before .before .pre .3) (c .before .before .match .rest .0 .0 .0 .0 .0 .0 .0 .0 .0 .0 .0 .0 .0 .0 .0 .1) (c .before .before .match .rest .0 .0 .0 .0 .0 .0 .0 .0 .0 .0 .0 .0 .0 .0 .1) (c .before .before .match .rest .0 .0 .0 .0 .0 .0 .0 .0 .0 .0 .0 .0 .0 .1) (c .before .before .match .rest .0 .0 .0 .0 .0 .0 .0 .0 .0 .0 .0 .0 .1) (c .before .before .match .rest .0 .0 .0 .0 .0 .0 .0 .0 .0 .0 .0 .1) (c .before .before .match .rest .0 .0 .0 .0 .0 .0 .0 .0 .0 .0 .1) (c .before .before .match .rest .0 .0 .0 .0 .0 .0 .0 .0 .0 .1) (c .before .before .match .rest .0 .0 .0 .0 .0 .0 .0 .0 .1) (c .before .before .match .rest .0 .0 .0 .0 .0 .0 .0 .1) (c .before .before .match .rest .0 .0 .0 .0 .0 .0 .1) (c .before .before .match .rest .0 .0 .0 .0 .0 .1) (c .before .before .match .rest .0 .0 .0 .0 .1) (c .before .before .match .rest .0 .0 .0 .1) (c .before .before .match .rest .0 .0 .1) (c .before .before .match .rest .0 .1) (c .before .before .match .rest .1) in (rw e (c .lowest-19 .ensures), (λ h. c .before .before .before .before .before .before .pre .5 (omega (arith, e)), unchanged))
+returns-17 c =
+    let p = c .before .before .before .before .before .before .before .pre in
+    let e = last-stage (p .1) (p .2) (c .before .before .match .rest) in
+    (rw e (c .lowest-19 .ensures), (λ h. p .4 .codes-kept (omega (arith, e)), unchanged))
+
+lowest-11-requires : tie.Need-lowest-11-requires
+lowest-11-requires c κs =
+    let p = c .before .before .before .before .before .pre in
+    let e = c .match .keys9 in
+    (p .0, p .4 .index-made (omega (arith, e)), p .4 .ancestors-made (omega (arith, e)))
+
+lowest-12-requires : tie.Need-lowest-12-requires
+lowest-12-requires c κs =
+    let p = c .before .before .before .before .before .pre in
+    (p .0, p .4 .ancestors-made (omega (arith, c .match .keys10)))
+
+lowest-14-requires : tie.Need-lowest-14-requires
+lowest-14-requires c κs =
+    let p = c .before .before .before .before .before .before .pre in
+    let e = c .before .match .keys12 in
+    (p .0, p .4 .index-made (omega (arith, e)), p .4 .ancestors-made (omega (arith, e)), rw e at (p .3), p .4 .size)
 
 lowest-15-requires : tie.Need-lowest-15-requires
 lowest-15-requires c κs =
-    let p = c .before .before .before .before .before .pre in
-    (p .0, p .1, p .5 (omega (arith, c .before .match .keys13)))
+    let p = c .before .before .before .before .before .before .pre in
+    let e = c .before .match .keys13 in
+    (p .0, p .4 .index-made (omega (arith, e)), p .4 .codes-kept (omega (arith, e)), p .4 .ancestors-made (omega (arith, e)), rw e at (p .3))
 
 lowest-16-requires : tie.Need-lowest-16-requires
 lowest-16-requires c κs =
-    let p = c .before .before .before .before .before .pre in
-    (p .0, p .5 (omega (arith, c .before .match .keys14)))
+    let p = c .before .before .before .before .before .before .pre in
+    (p .0, p .4 .codes-kept (omega (arith, c .before .match .keys14)))
 
 lowest-17-requires : tie.Need-lowest-17-requires
 lowest-17-requires c κs =
+    let p = c .before .before .before .before .before .before .pre in
+    let e = c .before .match .keys15 in
+    (p .0, p .4 .codes-kept (omega (arith, e)), p .4 .ancestors-made (omega (arith, e)))
+
+lowest-18-requires : tie.Need-lowest-18-requires
+lowest-18-requires c κs =
     let p = c .before .before .before .before .before .pre in
-    (p .0, p .5 (omega (arith, c .before .match .keys15)))
+    (p .0, p .4 .ancestors-made (omega (arith, c .match .keys16)))
 
 lowest-19-requires : tie.Need-lowest-19-requires
 lowest-19-requires c κs =
-    let p = c .before .before .before .before .before .pre in
-    let e = last-stage (p .2) (p .3) (c .before .match .rest .0 .0 .0 .0 .0 .0 .0 .0 .0 .0 .0 .0 .0 .0 .0 .1) (c .before .match .rest .0 .0 .0 .0 .0 .0 .0 .0 .0 .0 .0 .0 .0 .0 .1) (c .before .match .rest .0 .0 .0 .0 .0 .0 .0 .0 .0 .0 .0 .0 .0 .1) (c .before .match .rest .0 .0 .0 .0 .0 .0 .0 .0 .0 .0 .0 .0 .1) (c .before .match .rest .0 .0 .0 .0 .0 .0 .0 .0 .0 .0 .0 .1) (c .before .match .rest .0 .0 .0 .0 .0 .0 .0 .0 .0 .0 .1) (c .before .match .rest .0 .0 .0 .0 .0 .0 .0 .0 .0 .1) (c .before .match .rest .0 .0 .0 .0 .0 .0 .0 .0 .1) (c .before .match .rest .0 .0 .0 .0 .0 .0 .0 .1) (c .before .match .rest .0 .0 .0 .0 .0 .0 .1) (c .before .match .rest .0 .0 .0 .0 .0 .1) (c .before .match .rest .0 .0 .0 .0 .1) (c .before .match .rest .0 .0 .0 .1) (c .before .match .rest .0 .0 .1) (c .before .match .rest .0 .1) (c .before .match .rest .1) in
-    (p .0, p .5 (omega (arith, e)))
+    let p = c .before .before .before .before .before .before .pre in
+    let e = last-stage (p .1) (p .2) (c .before .match .rest) in
+    (p .0, p .4 .index-made (omega (arith, e)), p .4 .codes-kept (omega (arith, e)), p .4 .ancestors-made (omega (arith, e)), rw e at (p .3))
 
 pub lowest-spec : {M : Type 1} → statement M
 lowest-spec =
@@ -120,15 +136,14 @@ lowest-spec =
     (λ c κs. search needs)
     (λ c κs. search needs)
     (λ c κs. search needs)
+    lowest-11-requires
+    lowest-12-requires
     (λ c κs. search needs)
-    (λ c κs. search needs)
-    (λ c κs. search needs)
-    first-14-requires
-    place-found-requires
+    lowest-14-requires
     lowest-15-requires
     lowest-16-requires
     lowest-17-requires
-    (λ c κs. search needs)
+    lowest-18-requires
     lowest-19-requires
     returns
     returns-2

@@ -1,4 +1,4 @@
-use mathlib.Core.Path.{_≡_, sym, _∙_}
+use mathlib.Core.Path.{sym}
 use Rattle.packed.proofs.Laws.{same-lengths, same-common}
 use borrow.Author.Needs.{needs}
 use Rattle.packed.proofs.same_bytes.Statement.{statement}

@@ -1,7 +1,7 @@
 use native.Mathlib.Omega.{arith}
 use lib.Pow.{pow-mono}
 use Rattle.packed.proofs.Laws.{field-high, field-low, field-lt}
-use Prim.Native.Nat.{_+_, _/_, _%_, _^_, _<_}
+use Prim.Native.Nat.{_+_, _/_, _^_}
 use mathlib.Core.Path.{_≡_}
 use Rattle.packed.specs.Field.{fieldOf}
 use borrow.Author.Needs.{needs}

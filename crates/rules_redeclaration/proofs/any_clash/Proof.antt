@@ -1,5 +1,5 @@
-use Prim.Native.Nat.{_≤_, _<_}
-use mathlib.Core.Path.{_≡_, sym, _∙_}
+use Prim.Native.Nat.{_≤_}
+use mathlib.Core.Path.{sym, _∙_}
 use mathlib.Core.List.{[]}
 use native.Mathlib.Omega.{arith}
 use lib.ListN.{length}
@@ -30,12 +30,6 @@ first-alike-requires c κs = let s = c .before .before .before .before in (s .pr
 loop-holds : tie.Need-loop-holds Inv-loop μ-loop
 loop-holds c = let s = c .before .before .before .before .before in let x = s .pre .4 in (x, searched-start _ _ _ _ x _ _ _ (on-start _ _ _ _ x _ (alike-start _ _ _ x _ (s .pre .2) _ (c .first-alike .ensures))), omega arith, s .pre .0, s .pre .3)
 
-sub-q : tie.Need-sub-q Inv-loop μ-loop
-sub-q c = search needs
-
-clashes-requires : tie.Need-clashes-requires Inv-loop μ-loop
-clashes-requires c κs = search needs
-
 returns : tie.Need-returns Inv-loop μ-loop
 returns c = let had = c .before .before .before .loop .inv in let a = c .before .before .before .before .before .before .before .before .before .args in sym (any-of _ 0 _ _ (omega arith) (omega (arith, on-below _ _ _ _ _ _ _ (had .1 .on) (c .before .before .loop-test .taken))) (clash-is (a .types .now) (a .properties .now) (a .names .now) (a .p) _ (on-reach _ _ _ _ _ _ _ (had .1 .on) (c .before .before .loop-test .taken) .named) (a .above) ∙ sym (c .before .clashes .ensures) ∙ c .if1 .taken))
 
@@ -59,8 +53,8 @@ any-clash-spec =
     μ-loop
     first-alike-requires
     loop-holds
-    sub-q
-    clashes-requires
+    (λ c. search needs)
+    (λ c κs. search needs)
     returns
     next-alike-requires
     loop-less

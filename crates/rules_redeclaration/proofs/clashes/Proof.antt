@@ -7,18 +7,9 @@ use borrow.Author.Needs.{needs}
 use Rattle.rules_redeclaration.proofs.clashes.Statement.{statement}
 use Rattle.rules_redeclaration.proofs.clashes.Tie as tie
 
-property-owner-requires : tie.Need-property-owner-requires
-property-owner-requires c κs = search needs
-
-in-set-requires : tie.Need-in-set-requires
-in-set-requires c κs = search needs
-
 returns : tie.Need-returns
 unfolding modelOf clashing
 returns c = rw (← c .before .before .property-owner .ensures .0, ← c .before .in-set .ensures, not-true (c .before .in-set .result) (c .if1 .taken))
-
-redeclares-requires : tie.Need-redeclares-requires
-redeclares-requires c κs = search needs
 
 returns-2 : tie.Need-returns-2
 unfolding modelOf clashing rules.redeclares ancestor
@@ -27,4 +18,4 @@ returns-2 c = rw (← c .before .before .before .property-owner .ensures .0, ←
 pub clashes-spec : {M : Type 1} → statement M
 clashes-spec =
     tie.close
-    (tie.spec property-owner-requires in-set-requires returns redeclares-requires returns-2)
+    (tie.spec (λ c κs. search needs) (λ c κs. search needs) returns (λ c κs. search needs) returns-2)

@@ -1,5 +1,5 @@
 use Prim.Native.Nat.{_≤_, _<_}
-use mathlib.Core.Path.{_≡_, sym, _∙_}
+use mathlib.Core.Path.{sym, _∙_}
 use mathlib.Core.List.{[]}
 use native.Mathlib.Omega.{arith}
 use Rattle.csdl.specs.Tables.{propertyCount}
@@ -28,15 +28,9 @@ first-alike-requires c κs = let s = c .before .before .before in (s .pre .2 .ra
 loop-holds : tie.Need-loop-holds Inv-loop μ-loop
 loop-holds c = let s = c .before .before .before .before in let x = s .pre .2 in (x, searched-start _ _ _ _ x _ _ _ (on-start _ _ _ _ x _ (alike-start _ _ _ x _ (s .pre .1) _ (c .first-alike .ensures))), omega arith, s .pre .1)
 
-sub-q : tie.Need-sub-q Inv-loop μ-loop
-sub-q c = search needs
-
 returns : tie.Need-returns Inv-loop μ-loop
 unfolding rules.property11a repeated
 returns c = let had = c .before .before .loop .inv in sym (searched-end _ _ _ _ _ _ _ _ (had .1) _ (omega (arith, had .3)) (λ h. c .if1 .taken))
-
-same-owner-requires : tie.Need-same-owner-requires Inv-loop μ-loop
-same-owner-requires c κs = search needs
 
 returns-2 : tie.Need-returns-2 Inv-loop μ-loop
 unfolding rules.property11a repeated
@@ -63,9 +57,9 @@ declared-before-spec =
     μ-loop
     first-alike-requires
     loop-holds
-    sub-q
+    (λ c. search needs)
     returns
-    same-owner-requires
+    (λ c κs. search needs)
     returns-2
     next-alike-requires
     loop-less

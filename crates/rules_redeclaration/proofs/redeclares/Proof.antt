@@ -5,50 +5,8 @@ use borrow.Author.Needs.{needs}
 use Rattle.rules_redeclaration.proofs.redeclares.Statement.{statement}
 use Rattle.rules_redeclaration.proofs.redeclares.Tie as tie
 
-property-navigation-requires : tie.Need-property-navigation-requires
-property-navigation-requires c κs = search needs
-
-property-navigation-requires-2 : tie.Need-property-navigation-requires-2
-property-navigation-requires-2 c κs = search needs
-
-alike-requires : tie.Need-alike-requires
-alike-requires c κs = search needs
-
-property-type-ref-requires : tie.Need-property-type-ref-requires
-property-type-ref-requires c κs = search needs
-
-property-type-ref-requires-2 : tie.Need-property-type-ref-requires-2
-property-type-ref-requires-2 c κs = search needs
-
 is-above-requires : tie.Need-is-above-requires
 is-above-requires c κs = let s = c .before .before .before .before .before .before .before in (s .pre .0, λ u h. rw (c .property-type-ref2 .ensures .0) (s .pre .1 u h))
-
-property-collection-requires : tie.Need-property-collection-requires
-property-collection-requires c κs = search needs
-
-property-collection-requires-2 : tie.Need-property-collection-requires-2
-property-collection-requires-2 c κs = search needs
-
-alike-requires-2 : tie.Need-alike-requires-2
-alike-requires-2 c κs = search needs
-
-property-nullable-requires : tie.Need-property-nullable-requires
-property-nullable-requires c κs = search needs
-
-property-nullable-requires-2 : tie.Need-property-nullable-requires-2
-property-nullable-requires-2 c κs = search needs
-
-alike-requires-3 : tie.Need-alike-requires-3
-alike-requires-3 c κs = search needs
-
-property-contains-requires : tie.Need-property-contains-requires
-property-contains-requires c κs = search needs
-
-property-contains-requires-2 : tie.Need-property-contains-requires-2
-property-contains-requires-2 c κs = search needs
-
-alike-requires-4 : tie.Need-alike-requires-4
-alike-requires-4 c κs = search needs
 
 returns : tie.Need-returns
 unfolding modelOf ancestor rules.redeclares
@@ -79,19 +37,19 @@ pub redeclares-spec : {M : Type 1} → statement M
 redeclares-spec =
     tie.close
     (tie.spec
-    property-navigation-requires
-    property-navigation-requires-2
-    alike-requires
-    property-type-ref-requires
-    property-type-ref-requires-2
+    (λ c κs. search needs)
+    (λ c κs. search needs)
+    (λ c κs. search needs)
+    (λ c κs. search needs)
+    (λ c κs. search needs)
     is-above-requires
-    property-collection-requires
-    property-collection-requires-2
-    alike-requires-2
-    property-nullable-requires
-    property-nullable-requires-2
-    alike-requires-3
-    property-contains-requires
-    property-contains-requires-2
-    alike-requires-4
+    (λ c κs. search needs)
+    (λ c κs. search needs)
+    (λ c κs. search needs)
+    (λ c κs. search needs)
+    (λ c κs. search needs)
+    (λ c κs. search needs)
+    (λ c κs. search needs)
+    (λ c κs. search needs)
+    (λ c κs. search needs)
     returns)

@@ -12,12 +12,6 @@ use borrow.Author.Needs.{needs}
 use Rattle.rules_redeclaration.proofs.wrongly_redeclared.Statement.{statement}
 use Rattle.rules_redeclaration.proofs.wrongly_redeclared.Tie as tie
 
-property-owner-requires : tie.Need-property-owner-requires
-property-owner-requires c κs = search needs
-
-ancestors-at-requires : tie.Need-ancestors-at-requires
-ancestors-at-requires c κs = search needs
-
 returns : tie.Need-returns
 unfolding modelOf ancestor
 returns c =
@@ -27,12 +21,6 @@ returns c =
     let all : (q : ℕ) → member (above .result) (m .owner q) ≡ ancestor m (m .owner q) (m .owner (a .p)) =
     λ q. rw (← c .before .before .property-owner .ensures .0) (above .ensures (m .owner q) (field-lt (a .properties .now) (56 * q) 6)) in
     sym (clash-none m (a .p)) ∙ ap (λ s. anyFrom (λ q. clash m s (a .p) q) 0 (m .properties)) (sym (c .if1 .taken)) ∙ clash-any m (above .result) (a .p) all
-
-property-type-ref-requires : tie.Need-property-type-ref-requires
-property-type-ref-requires c κs = search needs
-
-ancestors-at-requires-2 : tie.Need-ancestors-at-requires-2
-ancestors-at-requires-2 c κs = search needs
 
 any-clash-requires : tie.Need-any-clash-requires
 any-clash-requires c κs = let s = c .before .before .before .before .before .before .before .before .before .before .pre in (s .0, s .1, s .2, λ u h. rw (← c .before .property-type-ref .ensures .0) (c .ancestors-at2 .ensures u h), s .3)
@@ -51,10 +39,10 @@ pub wrongly-redeclared-spec : {M : Type 1} → statement M
 wrongly-redeclared-spec =
     tie.close
     (tie.spec
-    property-owner-requires
-    ancestors-at-requires
+    (λ c κs. search needs)
+    (λ c κs. search needs)
     returns
-    property-type-ref-requires
-    ancestors-at-requires-2
+    (λ c κs. search needs)
+    (λ c κs. search needs)
     any-clash-requires
     returns-2)

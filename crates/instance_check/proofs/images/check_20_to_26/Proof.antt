@@ -2,6 +2,7 @@ use mathlib.Core.Path.{sym, _∙_}
 use Rattle.csdl.specs.Verdict.{verdict, instanceMeans}
 use borrow.Author.Needs.{needs}
 use Rattle.model_image.proofs.Parts.{layout}
+use Rattle.instance_image.proofs.Sizes.{sized}
 use Rattle.instance_check.proofs.images.check_20_to_26.Statement.{statement}
 use Rattle.instance_check.proofs.images.check_20_to_26.Tie as tie
 
@@ -10,7 +11,7 @@ unfolding verdict instanceMeans
 returns c = rw (← c .before .bad-instance .ensures, c .if1 .taken)
 
 first-broken-requires : tie.Need-first-broken-requires
-first-broken-requires c κs = (layout _ (c .before .before .before .before .pre), sym (c .before .bad-instance .ensures) ∙ c .if1 .left)
+first-broken-requires c κs = (layout _ (c .before .before .before .before .pre), sized _ (sym (c .before .bad-instance .ensures) ∙ c .if1 .left))
 
 returns-2 : tie.Need-returns-2
 unfolding verdict

@@ -16,7 +16,7 @@ unfolding nodeIn
 returns-2 c =
     let a = c .before .before .before .before .before .args in
     let n = c .before .before .read-at .result in
-    rw (← c .before .before .read-at .ensures, found-test 0 (λ (s : ℕ). getD (a .nodes .now) s 0) n, ne-eqb n 0 (c .before .if1 .left)) (c .read-at2 .ensures)
+    rw (← c .before .before .read-at .ensures, found-test 0 (λ (s : ℕ). getD (a .slot-nodes .now) s 0) n, ne-eqb n 0 (c .before .if1 .left)) (c .read-at2 .ensures)
 
 pub node-of-spec : {M : Type 1} → statement M
 node-of-spec =

@@ -29,7 +29,7 @@ unfolding withinIn
 returns c =
     let s = c .before .before .before .before .before .before .before .before .before .before in
     let a = s .args in
-    let step : ℕ → ℕ → Bool = stepIn (nodeIn (a .slots .now) (a .nodes .now)) (entry (a .to .now)) (a .c) in
+    let step : ℕ → ℕ → Bool = stepIn (nodeIn (a .item-slots .now) (a .slot-nodes .now)) (entry (a .to .now)) (a .c) in
     let made = c .before .before .before .before .before .step-rows in
     let closed = c .before .before .before .close-rows in (
       c .first-in-rows .ensures .0

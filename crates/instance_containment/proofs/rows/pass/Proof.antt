@@ -2,7 +2,6 @@ use borrow.Author.Needs.{needs}
 use Prim.Native.Nat.{_*_, _-_, _≤_, _<_}
 use mathlib.Core.Path.{_≡_, sym, _∙_}
 use mathlib.Core.Bool.{true}
-use native.Mathlib.Omega.{arith}
 use borrow.Author.Tests.{not-true, not-false}
 use lib.ListN.{length, length-set}
 use Rattle.instance_containment.specs.Rows.{inRow}

@@ -1,6 +1,6 @@
 use borrow.Author.Needs.{needs}
 use Prim.Native.Nat.{_-_, _≤_}
-use mathlib.Core.Path.{_≡_, refl, sym}
+use mathlib.Core.Path.{sym}
 use native.Mathlib.Omega.{arith}
 use Rattle.instance_containment.specs.Graph.{nodeIn, entry}
 use Rattle.instance_containment.specs.Rows.{Steps}
@@ -9,10 +9,10 @@ use Rattle.instance_containment.proofs.rows.step_rows.Statement.{statem
 use Rattle.instance_containment.proofs.rows.step_rows.Tie as tie
 
 abbrev Inv-loop : tie.InvT-loop
-Inv-loop slots nodes to c rows₀ k₀ rows k = (k ≤ c) × Steps (stepsFrom (nodeIn slots nodes) (entry to) c k) rows
+Inv-loop item-slots slot-nodes to c rows₀ k₀ rows k = (k ≤ c) × Steps (stepsFrom (nodeIn item-slots slot-nodes) (entry to) c k) rows
 
 abbrev μ-loop : tie.MeasureT-loop
-μ-loop slots nodes to c rows₀ k₀ rows k = k
+μ-loop item-slots slot-nodes to c rows₀ k₀ rows k = k
 
 loop-holds : tie.Need-loop-holds Inv-loop μ-loop
 loop-holds c = (search needs, from-start _ _ _)
@@ -28,13 +28,13 @@ loop-again c =
     let a = c .before .before .before .before .before .before .before .before .before .before .args in
     let l = c .before .before .before .before .before .before .loop in (
       search needs,
-      from-more (nodeIn (a .slots .now) (a .nodes .now)) (entry (a .to .now)) (a .c) (l .k - 1) (l .k) _ _ (l .rows) (c .before .put-step .last .0) (omega arith) (omega arith) (c .before .before .before .node-of .ensures) (c .before .before .read-at .ensures) (l .inv .1) (c .before .put-step .ensures),
+      from-more (nodeIn (a .item-slots .now) (a .slot-nodes .now)) (entry (a .to .now)) (a .c) (l .k - 1) (l .k) _ _ (l .rows) (c .before .put-step .last .0) (omega arith) (omega arith) (c .before .before .before .node-of .ensures) (c .before .before .read-at .ensures) (l .inv .1) (c .before .put-step .ensures),
     )
 
 returns : tie.Need-returns Inv-loop μ-loop
 returns c =
     let a = c .before .before .before .before .before .args in
-    from-end (nodeIn (a .slots .now) (a .nodes .now)) (entry (a .to .now)) (a .c) (c .before .loop .k) (c .before .loop .rows) (omega arith) (c .before .loop .inv .1)
+    from-end (nodeIn (a .item-slots .now) (a .slot-nodes .now)) (entry (a .to .now)) (a .c) (c .before .loop .k) (c .before .loop .rows) (omega arith) (c .before .loop .inv .1)
 
 pub step-rows-spec : {M : Type 1} → statement M
 step-rows-spec =

@@ -13,11 +13,11 @@ use Rattle.instance_values.proofs.rules.first_25.Statement.{statement}
 use Rattle.instance_values.proofs.rules.first_25.Tie as tie
 
 abbrev Inv-loop : tie.InvT-loop
-Inv-loop types properties nodes slots items owners ancestors n k₀ k =
+Inv-loop types properties nodes slots items item-slots ancestors n k₀ k =
     First (λ u. item25 (modelOf [] types properties [] [] [] [] [] []) (instanceOf nodes slots items) u) n k × (n ≤ 2048) × (length types ≤ 384) × (length nodes ≤ 1024)
 
 abbrev μ-loop : tie.MeasureT-loop
-μ-loop types properties nodes slots items owners ancestors n k₀ k = n - k
+μ-loop types properties nodes slots items item-slots ancestors n k₀ k = n - k
 
 slice-aggregate-item-25-of : tie.Need-slice-aggregate-item-25-of Inv-loop μ-loop
 slice-aggregate-item-25-of c = sym (ap (λ (l : List ℕ). length l) (c .before .before .before .before .before .all-ancestors .ensures) ∙ rows-size _ _)

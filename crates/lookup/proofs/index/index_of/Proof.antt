@@ -1,8 +1,8 @@
-use Prim.Native.Nat.{ℕ, _+_, _≤_}
+use Prim.Native.Nat.{_+_, _≤_}
 use mathlib.Core.Path.{_≡_, refl, _∙_}
 use native.Mathlib.Numerals.{add-one}
 use native.Mathlib.Omega.{arith}
-use lib.ListN.{getD, length-set}
+use lib.ListN.{getD}
 use Rattle.csdl.specs.Tables.{propertyCount}
 use Rattle.name_classes.specs.Classes.{nameOf, Ranked}
 use Rattle.lookup.proofs.Chain.{Filled, filled-start, filled-step, filled-past, entry-read, indexed, alike-start}
@@ -18,23 +18,8 @@ Inv-loop properties names index₀ later₀ p₀ index later p = (p ≤ property
 abbrev μ-loop : tie.MeasureT-loop
 μ-loop properties names index₀ later₀ p₀ index later p = p
 
-ranked-requires : tie.Need-ranked-requires Inv-loop μ-loop
-ranked-requires c κs = search needs
-
-property-count-requires : tie.Need-property-count-requires Inv-loop μ-loop
-property-count-requires c κs = search needs
-
 loop-holds : tie.Need-loop-holds Inv-loop μ-loop
 loop-holds c = (search needs, search needs, c .before .ranked .ensures .0, rw (c .property-count .ensures .0) (filled-start _ _ _ (c .before .ranked .ensures .0 .size)))
-
-cast-first : tie.Need-cast-first Inv-loop μ-loop
-cast-first c = search needs
-
-add-first : tie.Need-add-first Inv-loop μ-loop
-add-first c = search needs
-
-mul-first : tie.Need-mul-first Inv-loop μ-loop
-mul-first c = search needs
 
 array-read-first : tie.Need-array-read-first Inv-loop μ-loop
 array-read-first c = let l = c .before .loop in omega (arith, l .inv .0, l .inv .1)
@@ -48,15 +33,6 @@ mul-next c = let l = c .before .loop in let a = c .before .before .before .befor
 array-read-next : tie.Need-array-read-next Inv-loop μ-loop
 array-read-next c = let l = c .before .loop in let a = c .before .before .before .before .before .before .args in let old = c .before .before .before .ranked .result in let f = l .inv .3 in let r = entry-read (a .properties .now) (a .names .now) old (l .index) (l .later) (l .p) (l .inv .1) (omega arith) (l .inv .0) (l .inv .2) f in omega (arith, r .1, f .places)
 
-cast-index : tie.Need-cast-index Inv-loop μ-loop
-cast-index c = search needs
-
-add-index : tie.Need-add-index Inv-loop μ-loop
-add-index c = search needs
-
-mul-index : tie.Need-mul-index Inv-loop μ-loop
-mul-index c = search needs
-
 array-write-index : tie.Need-array-write-index Inv-loop μ-loop
 array-write-index c = let l = c .before .loop in omega (arith, l .inv .0, l .inv .1)
 
@@ -66,32 +42,8 @@ mul-later c = let l = c .before .loop in let a = c .before .before .before .befo
 array-write-later : tie.Need-array-write-later Inv-loop μ-loop
 array-write-later c = let l = c .before .loop in let a = c .before .before .before .before .before .before .args in let old = c .before .before .before .ranked .result in let f = l .inv .3 in let r = entry-read (a .properties .now) (a .names .now) old (l .index) (l .later) (l .p) (l .inv .1) (omega arith) (l .inv .0) (l .inv .2) f in omega (arith, r .1, f .places)
 
-sub-property-text : tie.Need-sub-property-text Inv-loop μ-loop
-sub-property-text c = search needs
-
-property-text-requires : tie.Need-property-text-requires Inv-loop μ-loop
-property-text-requires c κs = search needs
-
-bucket-of-requires : tie.Need-bucket-of-requires Inv-loop μ-loop
-bucket-of-requires c κs = search needs
-
-cast-index-2 : tie.Need-cast-index-2 Inv-loop μ-loop
-cast-index-2 c = search needs
-
-add-index-2 : tie.Need-add-index-2 Inv-loop μ-loop
-add-index-2 c = search needs
-
-mul-index-2 : tie.Need-mul-index-2 Inv-loop μ-loop
-mul-index-2 c = search needs
-
 array-write-index-2 : tie.Need-array-write-index-2 Inv-loop μ-loop
 array-write-index-2 c = let l = c .before .before .before .loop in let f = l .inv .3 in omega (arith, f .size, c .bucket-of .ensures)
-
-sub-p : tie.Need-sub-p Inv-loop μ-loop
-sub-p c = search needs
-
-loop-less : tie.Need-loop-less Inv-loop μ-loop
-loop-less c = search needs
 
 loop-again : tie.Need-loop-again Inv-loop μ-loop
 loop-again c = let l = c .before .before .before .loop in let a = c .before .before .before .before .before .before .before .before .args in let old = c .before .before .before .before .before .ranked .result in let f = l .inv .3 in let r = entry-read (a .properties .now) (a .names .now) old (l .index) (l .later) (l .p) (l .inv .1) (omega arith) (l .inv .0) (l .inv .2) f in (search needs, l .inv .1, l .inv .2, filled-past _ _ _ _ _ _ _ _ (l .inv .1) (omega arith) (filled-step _ _ _ _ _ _ _ (l .inv .1) (omega arith) (l .inv .0) (r .0) (r .1) f))
@@ -105,30 +57,30 @@ index-of-spec =
     (tie.spec
     Inv-loop
     μ-loop
-    ranked-requires
-    property-count-requires
+    (λ c κs. search needs)
+    (λ c κs. search needs)
     loop-holds
-    cast-first
-    add-first
-    mul-first
+    (λ c. search needs)
+    (λ c. search needs)
+    (λ c. search needs)
     array-read-first
     cast-first-2
     mul-next
     array-read-next
-    cast-index
-    add-index
-    mul-index
+    (λ c. search needs)
+    (λ c. search needs)
+    (λ c. search needs)
     array-write-index
     mul-later
     array-write-later
-    sub-property-text
-    property-text-requires
-    bucket-of-requires
-    cast-index-2
-    add-index-2
-    mul-index-2
+    (λ c. search needs)
+    (λ c κs. search needs)
+    (λ c κs. search needs)
+    (λ c. search needs)
+    (λ c. search needs)
+    (λ c. search needs)
     array-write-index-2
-    sub-p
-    loop-less
+    (λ c. search needs)
+    (λ c. search needs)
     loop-again
     returns)

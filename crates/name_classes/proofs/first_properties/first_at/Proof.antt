@@ -6,15 +6,6 @@ use borrow.Author.Needs.{needs}
 use Rattle.name_classes.proofs.first_properties.first_at.Statement.{statement}
 use Rattle.name_classes.proofs.first_properties.first_at.Tie as tie
 
-mul-p : tie.Need-mul-p
-mul-p c = search needs
-
-shared-slice-read-p : tie.Need-shared-slice-read-p
-shared-slice-read-p c = search needs
-
-has-name-requires : tie.Need-has-name-requires
-has-name-requires c κs = search needs
-
 add-result : tie.Need-add-result
 add-result c = let s = c .before .before .before .before .before .before .before .before in omega (arith, s .pre .2 (s .args .at) (c .before .before .before .if1 .taken))
 
@@ -30,4 +21,4 @@ returns-3 c = (at-past _ _ _ _ _ (c .if1 .left), search needs)
 pub first-at-spec : {M : Type 1} → statement M
 first-at-spec =
     tie.close
-    (tie.spec mul-p shared-slice-read-p has-name-requires add-result returns returns-2 returns-3)
+    (tie.spec (λ c. search needs) (λ c. search needs) (λ c κs. search needs) add-result returns returns-2 returns-3)

@@ -1,6 +1,5 @@
 use native.Mathlib.Omega.{arith}
 use Rattle.name_classes.proofs.Ranks.{search-first}
-use borrow.Author.Needs.{needs}
 use Rattle.name_classes.proofs.first_properties.first_of.Statement.{statement}
 use Rattle.name_classes.proofs.first_properties.first_of.Tie as tie
 

@@ -3,7 +3,7 @@ use Rattle.name_classes.proofs.first_properties.has_name.Statement.{sta
 use Rattle.name_classes.proofs.first_properties.has_name.Tie as tie
 
 returns : tie.Need-returns
-returns c = rw (← c .before .text .ensures) (c .same-bytes .ensures)
+returns c = rw (← c .before .property-text .ensures) (c .same-bytes .ensures)
 
 pub has-name-spec : {M : Type 1} → statement M
 has-name-spec = tie.close (tie.spec (λ c κs. search needs) (λ c κs. search needs) returns)

@@ -1,7 +1,5 @@
-use Prim.Native.Nat.{_≤_, _<_}
-use mathlib.Core.Path.{_≡_, refl, sym, _∙_}
 use native.Mathlib.Omega.{arith}
-use lib.ListN.{length, length-set}
+use lib.ListN.{length-set}
 use Rattle.name_classes.proofs.Sorting.{Shifted, shifted-start, shifted-next, shifted-end}
 use borrow.Author.Needs.{needs}
 use Rattle.name_classes.proofs.first_properties.insert.Statement.{statement}
@@ -16,35 +14,8 @@ abbrev μ-loop : tie.MeasureT-loop
 loop-holds : tie.Need-loop-holds Inv-loop μ-loop
 loop-holds c = shifted-start _ _ _ (c .pre .0) (c .pre .1)
 
-sub-moved : tie.Need-sub-moved Inv-loop μ-loop
-sub-moved c = search needs
-
-mul-moved : tie.Need-mul-moved Inv-loop μ-loop
-mul-moved c = search needs
-
-slice-read-moved : tie.Need-slice-read-moved Inv-loop μ-loop
-slice-read-moved c = search needs
-
-mul-order : tie.Need-mul-order Inv-loop μ-loop
-mul-order c = search needs
-
-slice-write-order : tie.Need-slice-write-order Inv-loop μ-loop
-slice-write-order c = search needs
-
-sub-k : tie.Need-sub-k Inv-loop μ-loop
-sub-k c = search needs
-
-loop-less : tie.Need-loop-less Inv-loop μ-loop
-loop-less c = search needs
-
 loop-again : tie.Need-loop-again Inv-loop μ-loop
 loop-again c = shifted-next _ _ _ _ _ (c .before .before .loop .inv) (omega arith)
-
-mul-order-2 : tie.Need-mul-order-2 Inv-loop μ-loop
-mul-order-2 c = search needs
-
-slice-write-order-2 : tie.Need-slice-write-order-2 Inv-loop μ-loop
-slice-write-order-2 c = search needs
 
 same-length : tie.Need-same-length Inv-loop μ-loop
 same-length c = simp length-set (c .before .loop .inv .size)
@@ -59,15 +30,15 @@ insert-spec =
     Inv-loop
     μ-loop
     loop-holds
-    sub-moved
-    mul-moved
-    slice-read-moved
-    mul-order
-    slice-write-order
-    sub-k
-    loop-less
+    (λ c. search needs)
+    (λ c. search needs)
+    (λ c. search needs)
+    (λ c. search needs)
+    (λ c. search needs)
+    (λ c. search needs)
+    (λ c. search needs)
     loop-again
-    mul-order-2
-    slice-write-order-2
+    (λ c. search needs)
+    (λ c. search needs)
     same-length
     returns)

@@ -1,6 +1,4 @@
 use Prim.Native.Nat.{_-_, _≤_}
-use mathlib.Core.Path.{_≡_, refl, sym, _∙_}
-use mathlib.Core.Logic.{⊎-elim}
 use native.Mathlib.Omega.{arith}
 use lib.ListN.{length}
 use Rattle.name_classes.specs.Classes.{nameOf, Sorted}
@@ -18,32 +16,8 @@ abbrev μ-loop : tie.MeasureT-loop
 loop-holds : tie.Need-loop-holds Inv-loop μ-loop
 loop-holds c = let p = c .before .before .before .before .pre in (p .2, between-start _ _ _ _ _, p .0, p .1)
 
-add-mid : tie.Need-add-mid Inv-loop μ-loop
-add-mid c = search needs
-
-cast-p : tie.Need-cast-p Inv-loop μ-loop
-cast-p c = search needs
-
-mul-p : tie.Need-mul-p Inv-loop μ-loop
-mul-p c = search needs
-
-shared-slice-read-p : tie.Need-shared-slice-read-p Inv-loop μ-loop
-shared-slice-read-p c = search needs
-
-named-before-requires : tie.Need-named-before-requires Inv-loop μ-loop
-named-before-requires c κs = search needs
-
-add-low : tie.Need-add-low Inv-loop μ-loop
-add-low c = search needs
-
-loop-less : tie.Need-loop-less Inv-loop μ-loop
-loop-less c = search needs
-
 loop-again : tie.Need-loop-again Inv-loop μ-loop
 loop-again c = let l = c .before .before .before .before .loop in (l .inv .0, between-up _ _ _ _ _ _ _ _ (l .inv .1) (omega arith) (omega arith) _ (c .before .named-before .ensures) (c .if1 .taken), l .inv .2, l .inv .3)
-
-loop-less-2 : tie.Need-loop-less-2 Inv-loop μ-loop
-loop-less-2 c = search needs
 
 loop-again-2 : tie.Need-loop-again-2 Inv-loop μ-loop
 loop-again-2 c = let l = c .before .before .before .before .loop in (l .inv .0, between-down _ _ _ _ _ _ _ _ (l .inv .1) (omega arith) (omega arith) _ (c .before .named-before .ensures) (c .if1 .left), l .inv .2, l .inv .3)
@@ -58,14 +32,14 @@ position-spec =
     Inv-loop
     μ-loop
     loop-holds
-    add-mid
-    cast-p
-    mul-p
-    shared-slice-read-p
-    named-before-requires
-    add-low
-    loop-less
+    (λ c. search needs)
+    (λ c. search needs)
+    (λ c. search needs)
+    (λ c. search needs)
+    (λ c κs. search needs)
+    (λ c. search needs)
+    (λ c. search needs)
     loop-again
-    loop-less-2
+    (λ c. search needs)
     loop-again-2
     returns)

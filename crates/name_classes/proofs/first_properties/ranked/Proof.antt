@@ -1,5 +1,5 @@
 use Prim.Native.Nat.{_-_, _≤_}
-use mathlib.Core.Path.{_≡_, refl, sym, _∙_}
+use mathlib.Core.Path.{_≡_, sym, _∙_}
 use mathlib.Core.Logic.{⊎-elim}
 use native.Mathlib.Numerals.{add-one}
 use native.Mathlib.Omega.{arith}
@@ -17,14 +17,8 @@ Inv-loop properties names n index₀ firsts₀ p₀ index firsts p = (p ≤ n) �
 abbrev μ-loop : tie.MeasureT-loop
 μ-loop properties names n index₀ firsts₀ p₀ index firsts p = n - p
 
-property-count-requires : tie.Need-property-count-requires Inv-loop μ-loop
-property-count-requires c κs = search needs
-
 loop-holds : tie.Need-loop-holds Inv-loop μ-loop
 loop-holds c = (search needs, search needs, ranked-start _ 513)
-
-text-requires : tie.Need-text-requires Inv-loop μ-loop
-text-requires c κs = search needs
 
 slice-aggregate-position : tie.Need-slice-aggregate-position Inv-loop μ-loop
 slice-aggregate-position c = let l = c .before .before .before .loop in let f = l .inv .2 in sym (f .size)
@@ -47,42 +41,15 @@ insert-requires c κs = let l = c .before .before .before .before .before .befor
 add-firsts : tie.Need-add-firsts Inv-loop μ-loop
 add-firsts c = let l = c .before .before .before .before .before .before .before .before .before .before .loop in let f = l .inv .2 in omega (arith, f .most)
 
-add-index : tie.Need-add-index Inv-loop μ-loop
-add-index c = search needs
-
-cast-index : tie.Need-cast-index Inv-loop μ-loop
-cast-index c = search needs
-
-add-index-2 : tie.Need-add-index-2 Inv-loop μ-loop
-add-index-2 c = search needs
-
-mul-index : tie.Need-mul-index Inv-loop μ-loop
-mul-index c = search needs
-
 array-write-index : tie.Need-array-write-index Inv-loop μ-loop
 array-write-index c = let l = c .before .before .before .before .before .before .before .before .before .before .loop in let f = l .inv .2 in omega (arith, c .before .insert .ensures .size, f .size)
-
-cast-index-2 : tie.Need-cast-index-2 Inv-loop μ-loop
-cast-index-2 c = search needs
-
-add-index-3 : tie.Need-add-index-3 Inv-loop μ-loop
-add-index-3 c = search needs
-
-mul-index-2 : tie.Need-mul-index-2 Inv-loop μ-loop
-mul-index-2 c = search needs
 
 array-write-index-2 : tie.Need-array-write-index-2 Inv-loop μ-loop
 array-write-index-2 c = let l = c .before .before .before .before .before .before .before .loop in let f = l .inv .2 in omega (arith, f .size)
 
-add-p : tie.Need-add-p Inv-loop μ-loop
-add-p c = search needs
-
-loop-less : tie.Need-loop-less Inv-loop μ-loop
-loop-less c = search needs
-
 loop-again : tie.Need-loop-again Inv-loop μ-loop
 loop-again c = let l = c .before .before .before .before .before .before .before .loop in let f = l .inv .2 in
-    let t = c .before .before .before .before .before .text .ensures in
+    let t = c .before .before .before .before .before .property-text .ensures in
     let e = rw t at (c .before .first-at .ensures .0) in (
       search needs,
       search needs,
@@ -104,9 +71,9 @@ ranked-spec =
     (tie.spec
     Inv-loop
     μ-loop
-    property-count-requires
+    (λ c κs. search needs)
     loop-holds
-    text-requires
+    (λ c κs. search needs)
     slice-aggregate-position
     position-requires
     slice-aggregate-first-at
@@ -114,17 +81,17 @@ ranked-spec =
     slice-aggregate-insert
     insert-requires
     add-firsts
-    add-index
-    cast-index
-    add-index-2
-    mul-index
+    (λ c. search needs)
+    (λ c. search needs)
+    (λ c. search needs)
+    (λ c. search needs)
     array-write-index
-    cast-index-2
-    add-index-3
-    mul-index-2
+    (λ c. search needs)
+    (λ c. search needs)
+    (λ c. search needs)
     array-write-index-2
-    add-p
-    loop-less
+    (λ c. search needs)
+    (λ c. search needs)
     loop-again
     array-write-index-3
     returns)

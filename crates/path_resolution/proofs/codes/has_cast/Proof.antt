@@ -1,6 +1,6 @@
 use Prim.Native.Nat.{_-_, _<_}
-use mathlib.Core.Path.{_≡_, refl}
-use lib.ListN.{length, getD}
+use mathlib.Core.Path.{refl}
+use lib.ListN.{getD}
 use native.Mathlib.Omega.{arith}
 use borrow.Author.Tests.{le-leb, lt-leb}
 use Rattle.path_resolution.specs.Resolution.{castCode}

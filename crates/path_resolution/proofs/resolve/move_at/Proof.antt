@@ -14,7 +14,7 @@ returns-2 : tie.Need-returns-2
 unfolding modelOf segmentAt resolvesAt stepAt movesTo structured find own declares
 returns-2 c =
     let b = c .before .before .before in
-    rw (← b .before .segment-cast .ensures, b .if1 .left, ← c .before .before .segment-text .ensures, ← c .before .find-on .ensures .0) (c .named-move .ensures)
+    rw (← b .before .segment-cast .ensures, b .if1 .left, ← c .before .before .segment-text .ensures, ← c .before .find .ensures .0) (c .named-move .ensures)
 
 pub move-at-spec : {M : Type 1} → statement M
 move-at-spec =
@@ -22,7 +22,7 @@ move-at-spec =
     (tie.spec
     (λ c κs. search needs)
     (λ c κs. search needs)
-    (λ c κs. c .before .before .before .before .before .before .before .before .before .pre .0)
+    (λ c κs. let p = c .before .before .before .before .before .before .before .before .before .pre in (p .0, p .3))
     (λ c. search needs)
     returns
     (λ c κs. search needs)

@@ -11,10 +11,10 @@ unfolding ancestorOrSelf
 returns c = rw (eq-eqb _ _ (c .if1 .taken))
 
 returns-2 : tie.Need-returns-2
-returns-2 c = sym (ancestor-or-self-past _ (c .before .before .before .pre) _ _ (c .before .if1 .left) (c .if2 .taken))
+returns-2 c = sym (ancestor-or-self-past _ (c .before .before .before .before .pre .0) _ _ (c .before .if1 .left) (c .if2 .taken))
 
 returns-3 : tie.Need-returns-3
-returns-3 c = sym (ancestor-or-self-high _ (c .before .before .before .before .pre) _ _ (c .before .before .if1 .left) (c .if3 .taken))
+returns-3 c = sym (ancestor-or-self-high _ (c .before .before .before .before .before .pre .0) _ _ (c .before .before .if1 .left) (c .if3 .taken))
 
 pub ancestor-or-self-spec : {M : Type 1} → statement M
 ancestor-or-self-spec =

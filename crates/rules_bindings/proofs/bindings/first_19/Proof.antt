@@ -10,19 +10,18 @@ use Rattle.csdl.specs.Model.{modelOf}
 use Rattle.csdl.proofs.Loops.{First, first-start, first-hit, first-next, first-end}
 use Rattle.rules_names.specs.Digests.{Fingerprinted}
 use Rattle.rules_names.proofs.Fingerprints.{fingerprinted-none, fingerprinted-more}
-use Rattle.rules_bindings.specs.Digests.{bindingFingerprint}
-use Rattle.rules_bindings.specs.Bindings.{bindingCoded}
+use Rattle.rules_bindings.specs.Bindings.{bindingFingerprint, bindingCoded}
 use Rattle.rules_bindings.proofs.Split.{binding-split}
 use Rattle.rules_bindings.proofs.bindings.first_19.Statement.{statement}
 use Rattle.rules_bindings.proofs.bindings.first_19.Tie as tie
 
 abbrev Inv-loop : tie.InvT-loop
-Inv-loop types properties children bindings segments names codes n fingerprints₀ b₀ fingerprints b =
-    (n ≤ 128) × (length fingerprints ≡ 128) × Fingerprinted (λ i. bindingFingerprint (modelOf [] [] [] [] [] [] bindings segments names) i) b fingerprints
-    × First (λ i. bindingCoded (modelOf [] types properties [] [] children bindings segments names) codes i) n b
+Inv-loop types properties children bindings index codes ancestors n fingerprints₀ b₀ fingerprints b =
+    (n ≤ 128) × (length fingerprints ≡ 128) × Fingerprinted (λ i. bindingFingerprint (modelOf [] [] [] [] [] [] bindings [] []) index codes i) b fingerprints
+    × First (λ i. bindingCoded (modelOf [] types properties [] [] children bindings [] []) index codes i) n b
 
 abbrev μ-loop : tie.MeasureT-loop
-μ-loop types properties children bindings segments names codes n fingerprints₀ b₀ fingerprints b = n - b
+μ-loop types properties children bindings index codes ancestors n fingerprints₀ b₀ fingerprints b = n - b
 
 slice-aggregate-binding-again : tie.Need-slice-aggregate-binding-again Inv-loop μ-loop
 slice-aggregate-binding-again c = simp length-set (sym (c .before .before .before .before .loop .inv .1))
@@ -31,7 +30,7 @@ binding-again-requires : tie.Need-binding-again-requires Inv-loop μ-loop
 binding-again-requires c κs =
     let l = c .before .before .before .before .loop in
     let s = c .before .before in
-    fingerprinted-more _ (l .b) (l .fingerprints) (s .binding-fingerprint .result) (rw (l .inv .1) (lt-of-lt-of-le (s .before .loop-test .taken) (l .inv .0))) (s .binding-fingerprint .ensures) (l .inv .2)
+    (search needs, fingerprinted-more _ (l .b) (l .fingerprints) (s .binding-fingerprint .result) (rw (l .inv .1) (lt-of-lt-of-le (s .before .loop-test .taken) (l .inv .0))) (s .binding-fingerprint .ensures) (l .inv .2))
 
 returns : tie.Need-returns Inv-loop μ-loop
 returns c =
@@ -39,8 +38,8 @@ returns c =
     let a = l .before .before .before .before .before .before .before .before .before .args in
     rw (← l .before .binding-count .ensures .0)
     (first-hit _ _ _ _ (l .loop .inv .3) (c .before .before .before .before .before .loop-test .taken)
-    (ap₂ _||_ (c .before .before .before .binding-misled .ensures) (c .before .binding-again .ensures)
-    ∙ binding-split (a .types .now) (a .properties .now) (a .children .now) (a .bindings .now) (a .segments .now) (a .names .now) (a .codes .now) (l .loop .b))
+    (ap₂ _||_ (c .before .before .before .binding-paths-fail .ensures) (c .before .binding-again .ensures)
+    ∙ binding-split (a .types .now) (a .properties .now) (a .children .now) (a .bindings .now) (a .index .now) (a .codes .now) (l .loop .b))
     (c .if1 .taken))
 
 loop-again : tie.Need-loop-again Inv-loop μ-loop
@@ -52,8 +51,8 @@ loop-again c =
       l .inv .0,
       simp length-set (l .inv .1),
       fingerprinted-more _ (l .b) (l .fingerprints) (s .binding-fingerprint .result) (rw (l .inv .1) (lt-of-lt-of-le (s .before .loop-test .taken) (l .inv .0))) (s .binding-fingerprint .ensures) (l .inv .2),
-      first-next _ _ _ _ (l .inv .3) (s .before .loop-test .taken) (ap₂ _||_ (c .before .before .before .binding-misled .ensures) (c .before .binding-again .ensures)
-          ∙ binding-split (a .types .now) (a .properties .now) (a .children .now) (a .bindings .now) (a .segments .now) (a .names .now) (a .codes .now) (l .b)) (c .if1 .left),
+      first-next _ _ _ _ (l .inv .3) (s .before .loop-test .taken) (ap₂ _||_ (c .before .before .before .binding-paths-fail .ensures) (c .before .binding-again .ensures)
+          ∙ binding-split (a .types .now) (a .properties .now) (a .children .now) (a .bindings .now) (a .index .now) (a .codes .now) (l .b)) (c .if1 .left),
     )
 
 returns-2 : tie.Need-returns-2 Inv-loop μ-loop

@@ -9,19 +9,19 @@ use Rattle.rules_bindings.proofs.children.first_child_18.Statement.{sta
 use Rattle.rules_bindings.proofs.children.first_child_18.Tie as tie
 
 abbrev Inv-loop : tie.InvT-loop
-Inv-loop types keys children n h₀ h = First (λ h. child18 (modelOf [] types [] keys [] children [] [] []) h) n h
+Inv-loop types keys children ancestors n owners h₀ h = First (λ h. child18 (modelOf [] types [] keys [] children [] [] []) h) n h
 
 abbrev μ-loop : tie.MeasureT-loop
-μ-loop types keys children n h₀ h = n - h
+μ-loop types keys children ancestors n owners h₀ h = n - h
 
 returns : tie.Need-returns Inv-loop μ-loop
-returns c = rw (← c .before .before .before .before .child-count .ensures .0) (first-hit _ _ _ _ (c .before .before .before .loop .inv) (c .before .before .loop-test .taken) (c .before .child-18 .ensures) (c .if1 .taken))
+returns c = rw (← c .before .before .before .before .before .child-count .ensures .0) (first-hit _ _ _ _ (c .before .before .before .loop .inv) (c .before .before .loop-test .taken) (c .before .child-18 .ensures) (c .if1 .taken))
 
 loop-again : tie.Need-loop-again Inv-loop μ-loop
 loop-again c = first-next _ _ _ _ (c .before .before .before .loop .inv) (c .before .before .loop-test .taken) (c .before .child-18 .ensures) (c .if1 .left)
 
 returns-2 : tie.Need-returns-2 Inv-loop μ-loop
-returns-2 c = rw (← c .before .before .child-count .ensures .0) (first-end _ _ _ (c .before .loop .inv) (omega arith))
+returns-2 c = rw (← c .before .before .before .child-count .ensures .0) (first-end _ _ _ (c .before .loop .inv) (omega arith))
 
 pub first-child-18-spec : {M : Type 1} → statement M
 first-child-18-spec =
@@ -29,6 +29,7 @@ first-child-18-spec =
     (tie.spec
     Inv-loop
     μ-loop
+    (λ c κs. search needs)
     (λ c κs. search needs)
     (λ c. first-start _ _)
     (λ c κs. search needs)

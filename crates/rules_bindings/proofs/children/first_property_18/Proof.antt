@@ -9,19 +9,19 @@ use Rattle.rules_bindings.proofs.children.first_property_18.Statement.{
 use Rattle.rules_bindings.proofs.children.first_property_18.Tie as tie
 
 abbrev Inv-loop : tie.InvT-loop
-Inv-loop types properties keys n p₀ p = First (λ p. property18a (modelOf [] types properties keys [] [] [] [] []) p) n p
+Inv-loop types properties keys ancestors n owners p₀ p = First (λ p. property18a (modelOf [] types properties keys [] [] [] [] []) p) n p
 
 abbrev μ-loop : tie.MeasureT-loop
-μ-loop types properties keys n p₀ p = n - p
+μ-loop types properties keys ancestors n owners p₀ p = n - p
 
 returns : tie.Need-returns Inv-loop μ-loop
-returns c = rw (← c .before .before .before .before .property-count .ensures .0) (first-hit _ _ _ _ (c .before .before .before .loop .inv) (c .before .before .loop-test .taken) (c .before .property-18 .ensures) (c .if1 .taken))
+returns c = rw (← c .before .before .before .before .before .property-count .ensures .0) (first-hit _ _ _ _ (c .before .before .before .loop .inv) (c .before .before .loop-test .taken) (c .before .property-18 .ensures) (c .if1 .taken))
 
 loop-again : tie.Need-loop-again Inv-loop μ-loop
 loop-again c = first-next _ _ _ _ (c .before .before .before .loop .inv) (c .before .before .loop-test .taken) (c .before .property-18 .ensures) (c .if1 .left)
 
 returns-2 : tie.Need-returns-2 Inv-loop μ-loop
-returns-2 c = rw (← c .before .before .property-count .ensures .0) (first-end _ _ _ (c .before .loop .inv) (omega arith))
+returns-2 c = rw (← c .before .before .before .property-count .ensures .0) (first-end _ _ _ (c .before .loop .inv) (omega arith))
 
 pub first-property-18-spec : {M : Type 1} → statement M
 first-property-18-spec =
@@ -29,6 +29,7 @@ first-property-18-spec =
     (tie.spec
     Inv-loop
     μ-loop
+    (λ c κs. search needs)
     (λ c κs. search needs)
     (λ c. first-start _ _)
     (λ c κs. search needs)

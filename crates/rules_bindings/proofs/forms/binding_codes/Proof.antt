@@ -19,7 +19,7 @@ returns-2 : tie.Need-returns-2
 unfolding bindingCodes stepTest
 returns-2 c =
     let s = c .before .before .before .before in
-    let a = s .before .before .before .before .args in
+    let a = s .before .before .before .args in
     let m = modelOf [] (a .types .now) (a .properties .now) [] [] [] [] [] [] in
     ap₂ _||_ (ap not (c .before .code-test .ensures)) (c .any-code .ensures)
     ∙ form-name (λ p. nonContainment m p) (λ p. nonContainment m p) (a .codes .now) (a .n) _ (s .last-name .ensures .0) (omega (arith, c .before .before .before .if1 .left))

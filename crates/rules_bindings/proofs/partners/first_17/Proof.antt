@@ -9,10 +9,10 @@ use Rattle.rules_bindings.proofs.partners.first_17.Statement.{statement
 use Rattle.rules_bindings.proofs.partners.first_17.Tie as tie
 
 abbrev Inv-loop : tie.InvT-loop
-Inv-loop types properties codes n p₀ p = First (λ p. partnerCoded (modelOf [] types properties [] [] [] [] [] []) codes p) n p
+Inv-loop types properties codes ancestors n p₀ p = First (λ p. partnerCoded (modelOf [] types properties [] [] [] [] [] []) codes p) n p
 
 abbrev μ-loop : tie.MeasureT-loop
-μ-loop types properties codes n p₀ p = n - p
+μ-loop types properties codes ancestors n p₀ p = n - p
 
 returns : tie.Need-returns Inv-loop μ-loop
 returns c = rw (← c .before .before .before .before .property-count .ensures .0) (first-hit _ _ _ _ (c .before .before .before .loop .inv) (c .before .before .loop-test .taken) (c .before .property-17 .ensures) (c .if1 .taken))

@@ -12,4 +12,4 @@ returns c = rw (c .last-code .ensures, c .before .before .run-of .ensures, c .be
 pub partner-code-spec : {M : Type 1} → statement M
 partner-code-spec =
     tie.close
-    (tie.spec (λ c κs. search needs) (λ c κs. search needs) (λ c. search needs) (λ c κs. search needs) returns)
+    (tie.spec (λ c κs. search needs) (λ c κs. search needs) (λ c κs. search needs) returns)

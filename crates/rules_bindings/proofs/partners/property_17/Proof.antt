@@ -27,10 +27,8 @@ property-17-spec =
     (λ c κs. search needs)
     returns
     (λ c κs. search needs)
-    (λ c. search needs)
     (λ c κs. search needs)
     (λ c κs. search needs)
-    (λ c. search needs)
     (λ c κs. search needs)
     (λ c κs. search needs)
     returns-2)

@@ -13,11 +13,11 @@ returns c =
     let d = v .before .constraint-dependent .ensures in
     let r = w .before .constraint-principal .ensures in
     rw (
-      v .constraint-walk .ensures .0,
-      w .constraint-walk2 .ensures .0,
+      v .constraint-path .ensures .0,
+      w .constraint-path2 .ensures .0,
       c .constraint-ends .ensures,
-      v .constraint-walk .ensures .1,
-      w .constraint-walk2 .ensures .1,
+      v .constraint-path .ensures .1,
+      w .constraint-path2 .ensures .1,
       d .0,
       d .1,
       r .0,

@@ -23,5 +23,6 @@ key-alias-found-spec =
     returns
     (λ c κs. search needs)
     (λ c κs. search needs)
+    (λ c. search needs)
     (λ c κs. search needs)
     returns-2)

@@ -4,18 +4,9 @@ use borrow.Author.Needs.{needs}
 use Rattle.rules_keys.proofs.keys.key_fingerprint.Statement.{statement}
 use Rattle.rules_keys.proofs.keys.key_fingerprint.Tie as tie
 
-key-owner-requires : tie.Need-key-owner-requires
-key-owner-requires c κs = search needs
-
-key-name-requires : tie.Need-key-name-requires
-key-name-requires c κs = search needs
-
-fingerprint-of-requires : tie.Need-fingerprint-of-requires
-fingerprint-of-requires c κs = search needs
-
 returns : tie.Need-returns
 unfolding modelOf keyFingerprint
 returns c = rw (← c .before .before .key-owner .ensures .0, ← c .before .key-name .ensures) (c .fingerprint-of .ensures)
 
 pub key-fingerprint-spec : {M : Type 1} → statement M
-key-fingerprint-spec = tie.close (tie.spec key-owner-requires key-name-requires fingerprint-of-requires returns)
+key-fingerprint-spec = tie.close (tie.spec (λ c κs. search needs) (λ c κs. search needs) (λ c κs. search needs) returns)

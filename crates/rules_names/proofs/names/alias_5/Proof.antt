@@ -1,6 +1,5 @@
 use Rattle.csdl.specs.Model.{modelOf}
 use Rattle.csdl.specs.Form.{alias5a, name5a}
-use borrow.Author.Needs.{needs}
 use Rattle.rules_names.proofs.names.alias_5.Statement.{statement}
 use Rattle.rules_names.proofs.names.alias_5.Tie as tie
 

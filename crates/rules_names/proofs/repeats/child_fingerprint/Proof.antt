@@ -4,15 +4,6 @@ use borrow.Author.Needs.{needs}
 use Rattle.rules_names.proofs.repeats.child_fingerprint.Statement.{statement}
 use Rattle.rules_names.proofs.repeats.child_fingerprint.Tie as tie
 
-child-name-requires : tie.Need-child-name-requires
-child-name-requires c κs = search needs
-
-text-of-requires : tie.Need-text-of-requires
-text-of-requires c κs = search needs
-
-fingerprint-of-requires : tie.Need-fingerprint-of-requires
-fingerprint-of-requires c κs = search needs
-
 returns : tie.Need-returns
 unfolding childFingerprint modelOf
 returns c =
@@ -22,4 +13,4 @@ returns c =
 
 pub child-fingerprint-spec : {M : Type 1} → statement M
 child-fingerprint-spec =
-    tie.close (tie.spec child-name-requires text-of-requires fingerprint-of-requires returns)
+    tie.close (tie.spec (λ c κs. search needs) (λ c κs. search needs) (λ c κs. search needs) returns)

@@ -18,23 +18,8 @@ Inv-loop children names n fingerprints₀ h₀ fingerprints h = (n ≤ 64) × (l
 abbrev μ-loop : tie.MeasureT-loop
 μ-loop children names n fingerprints₀ h₀ fingerprints h = n - h
 
-child-count-requires : tie.Need-child-count-requires Inv-loop μ-loop
-child-count-requires c κs = search needs
-
 loop-holds : tie.Need-loop-holds Inv-loop μ-loop
 loop-holds c = (search needs, refl, fingerprinted-none _ _, first-start _ _)
-
-child-fingerprint-requires : tie.Need-child-fingerprint-requires Inv-loop μ-loop
-child-fingerprint-requires c κs = search needs
-
-cast-fingerprints : tie.Need-cast-fingerprints Inv-loop μ-loop
-cast-fingerprints c = search needs
-
-mul-fingerprints : tie.Need-mul-fingerprints Inv-loop μ-loop
-mul-fingerprints c = search needs
-
-array-write-fingerprints : tie.Need-array-write-fingerprints Inv-loop μ-loop
-array-write-fingerprints c = search needs
 
 slice-aggregate-child-7 : tie.Need-slice-aggregate-child-7 Inv-loop μ-loop
 slice-aggregate-child-7 c = simp length-set (sym (c .before .before .before .loop .inv .1))
@@ -44,19 +29,10 @@ child-7-requires c κs =
     let l = c .before .before .before .loop in
     fingerprinted-more _ (l .h) (l .fingerprints) _ (omega (arith, l .inv .0, l .inv .1)) (c .before .child-fingerprint .ensures) (l .inv .2)
 
-add-result : tie.Need-add-result Inv-loop μ-loop
-add-result c = search needs
-
 returns : tie.Need-returns Inv-loop μ-loop
 returns c =
     let l = c .before .before .before .before .before .loop in
     rw (← c .before .before .before .before .before .before .child-count .ensures .0) (first-hit _ _ _ _ (l .inv .3) (c .before .before .before .before .loop-test .taken) (c .before .child-7 .ensures) (c .if1 .taken))
-
-add-h : tie.Need-add-h Inv-loop μ-loop
-add-h c = search needs
-
-loop-less : tie.Need-loop-less Inv-loop μ-loop
-loop-less c = search needs
 
 loop-again : tie.Need-loop-again Inv-loop μ-loop
 loop-again c =
@@ -76,17 +52,17 @@ first-child-7-spec =
     (tie.spec
     Inv-loop
     μ-loop
-    child-count-requires
+    (λ c κs. search needs)
     loop-holds
-    child-fingerprint-requires
-    cast-fingerprints
-    mul-fingerprints
-    array-write-fingerprints
+    (λ c κs. search needs)
+    (λ c. search needs)
+    (λ c. search needs)
+    (λ c. search needs)
     slice-aggregate-child-7
     child-7-requires
-    add-result
+    (λ c. search needs)
     returns
-    add-h
-    loop-less
+    (λ c. search needs)
+    (λ c. search needs)
     loop-again
     returns-2)

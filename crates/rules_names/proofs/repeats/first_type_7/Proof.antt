@@ -18,23 +18,8 @@ Inv-loop types names n fingerprints₀ t₀ fingerprints t = (n ≤ 64) × (leng
 abbrev μ-loop : tie.MeasureT-loop
 μ-loop types names n fingerprints₀ t₀ fingerprints t = n - t
 
-type-count-requires : tie.Need-type-count-requires Inv-loop μ-loop
-type-count-requires c κs = search needs
-
 loop-holds : tie.Need-loop-holds Inv-loop μ-loop
 loop-holds c = (search needs, refl, fingerprinted-none _ _, first-start _ _)
-
-type-fingerprint-requires : tie.Need-type-fingerprint-requires Inv-loop μ-loop
-type-fingerprint-requires c κs = search needs
-
-cast-fingerprints : tie.Need-cast-fingerprints Inv-loop μ-loop
-cast-fingerprints c = search needs
-
-mul-fingerprints : tie.Need-mul-fingerprints Inv-loop μ-loop
-mul-fingerprints c = search needs
-
-array-write-fingerprints : tie.Need-array-write-fingerprints Inv-loop μ-loop
-array-write-fingerprints c = search needs
 
 slice-aggregate-type-7 : tie.Need-slice-aggregate-type-7 Inv-loop μ-loop
 slice-aggregate-type-7 c = simp length-set (sym (c .before .before .before .loop .inv .1))
@@ -44,19 +29,10 @@ type-7-requires c κs =
     let l = c .before .before .before .loop in
     fingerprinted-more _ (l .t) (l .fingerprints) _ (omega (arith, l .inv .0, l .inv .1)) (c .before .type-fingerprint .ensures) (l .inv .2)
 
-add-result : tie.Need-add-result Inv-loop μ-loop
-add-result c = search needs
-
 returns : tie.Need-returns Inv-loop μ-loop
 returns c =
     let l = c .before .before .before .before .before .loop in
     rw (← c .before .before .before .before .before .before .type-count .ensures .0) (first-hit _ _ _ _ (l .inv .3) (c .before .before .before .before .loop-test .taken) (c .before .type-7 .ensures) (c .if1 .taken))
-
-add-t : tie.Need-add-t Inv-loop μ-loop
-add-t c = search needs
-
-loop-less : tie.Need-loop-less Inv-loop μ-loop
-loop-less c = search needs
 
 loop-again : tie.Need-loop-again Inv-loop μ-loop
 loop-again c =
@@ -76,17 +52,17 @@ first-type-7-spec =
     (tie.spec
     Inv-loop
     μ-loop
-    type-count-requires
+    (λ c κs. search needs)
     loop-holds
-    type-fingerprint-requires
-    cast-fingerprints
-    mul-fingerprints
-    array-write-fingerprints
+    (λ c κs. search needs)
+    (λ c. search needs)
+    (λ c. search needs)
+    (λ c. search needs)
     slice-aggregate-type-7
     type-7-requires
-    add-result
+    (λ c. search needs)
     returns
-    add-t
-    loop-less
+    (λ c. search needs)
+    (λ c. search needs)
     loop-again
     returns-2)

@@ -6,38 +6,11 @@ use borrow.Author.Needs.{needs}
 use Rattle.rules_names.proofs.repeats.same_child.Statement.{statement}
 use Rattle.rules_names.proofs.repeats.same_child.Tie as tie
 
-mul-if1 : tie.Need-mul-if1
-mul-if1 c = search needs
-
-shared-slice-read-if1 : tie.Need-shared-slice-read-if1
-shared-slice-read-if1 c = search needs
-
-mul-if1-2 : tie.Need-mul-if1-2
-mul-if1-2 c = search needs
-
-shared-slice-read-if1-2 : tie.Need-shared-slice-read-if1-2
-shared-slice-read-if1-2 c = search needs
-
 returns : tie.Need-returns
 returns c =
     let s = c .before .before .before .before .before .before in
     let a = s .args in
     children-apart _ (a .h) (a .j) (fingerprints-apart _ (a .h + 1) (a .fingerprints .now) (s .pre .1) (a .j) (a .h) (omega (arith, s .pre .0)) (omega arith) (c .if1 .taken))
-
-child-name-requires : tie.Need-child-name-requires
-child-name-requires c κs = search needs
-
-text-of-requires : tie.Need-text-of-requires
-text-of-requires c κs = search needs
-
-child-name-requires-2 : tie.Need-child-name-requires-2
-child-name-requires-2 c κs = search needs
-
-text-of-requires-2 : tie.Need-text-of-requires-2
-text-of-requires-2 c κs = search needs
-
-same-bytes-requires : tie.Need-same-bytes-requires
-same-bytes-requires c κs = search needs
 
 returns-2 : tie.Need-returns-2
 unfolding modelOf
@@ -60,14 +33,14 @@ pub same-child-spec : {M : Type 1} → statement M
 same-child-spec =
     tie.close
     (tie.spec
-    mul-if1
-    shared-slice-read-if1
-    mul-if1-2
-    shared-slice-read-if1-2
+    (λ c. search needs)
+    (λ c. search needs)
+    (λ c. search needs)
+    (λ c. search needs)
     returns
-    child-name-requires
-    text-of-requires
-    child-name-requires-2
-    text-of-requires-2
-    same-bytes-requires
+    (λ c κs. search needs)
+    (λ c κs. search needs)
+    (λ c κs. search needs)
+    (λ c κs. search needs)
+    (λ c κs. search needs)
     returns-2)

@@ -1,5 +1,4 @@
 use Prim.Native.Nat.{_+_}
-use mathlib.Core.List.{[]}
 use native.Mathlib.Omega.{arith}
 use borrow.Author.Tests.{eq-eqb, ne-eqb}
 use Rattle.csdl.specs.Model.{modelOf}
@@ -9,48 +8,15 @@ use borrow.Author.Needs.{needs}
 use Rattle.rules_names.proofs.repeats.same_type.Statement.{statement}
 use Rattle.rules_names.proofs.repeats.same_type.Tie as tie
 
-mul-if1 : tie.Need-mul-if1
-mul-if1 c = search needs
-
-shared-slice-read-if1 : tie.Need-shared-slice-read-if1
-shared-slice-read-if1 c = search needs
-
-mul-if1-2 : tie.Need-mul-if1-2
-mul-if1-2 c = search needs
-
-shared-slice-read-if1-2 : tie.Need-shared-slice-read-if1-2
-shared-slice-read-if1-2 c = search needs
-
 returns : tie.Need-returns
 returns c =
     let s = c .before .before .before .before .before .before in
     let a = s .args in
     types-apart _ (a .t) (a .u) (fingerprints-apart _ (a .t + 1) (a .fingerprints .now) (s .pre .1) (a .u) (a .t) (omega (arith, s .pre .0)) (omega arith) (c .if1 .taken))
 
-type-schema-requires : tie.Need-type-schema-requires
-type-schema-requires c κs = search needs
-
-type-schema-requires-2 : tie.Need-type-schema-requires-2
-type-schema-requires-2 c κs = search needs
-
 returns-2 : tie.Need-returns-2
 unfolding sameType modelOf
 returns-2 c = rw (← c .before .before .type-schema .ensures .0, ← c .before .type-schema2 .ensures .0, ne-eqb _ _ (c .if2 .taken))
-
-type-name-requires : tie.Need-type-name-requires
-type-name-requires c κs = search needs
-
-text-of-requires : tie.Need-text-of-requires
-text-of-requires c κs = search needs
-
-type-name-requires-2 : tie.Need-type-name-requires-2
-type-name-requires-2 c κs = search needs
-
-text-of-requires-2 : tie.Need-text-of-requires-2
-text-of-requires-2 c κs = search needs
-
-same-bytes-requires : tie.Need-same-bytes-requires
-same-bytes-requires c κs = search needs
 
 returns-3 : tie.Need-returns-3
 unfolding sameType modelOf
@@ -74,17 +40,17 @@ pub same-type-spec : {M : Type 1} → statement M
 same-type-spec =
     tie.close
     (tie.spec
-    mul-if1
-    shared-slice-read-if1
-    mul-if1-2
-    shared-slice-read-if1-2
+    (λ c. search needs)
+    (λ c. search needs)
+    (λ c. search needs)
+    (λ c. search needs)
     returns
-    type-schema-requires
-    type-schema-requires-2
+    (λ c κs. search needs)
+    (λ c κs. search needs)
     returns-2
-    type-name-requires
-    text-of-requires
-    type-name-requires-2
-    text-of-requires-2
-    same-bytes-requires
+    (λ c κs. search needs)
+    (λ c κs. search needs)
+    (λ c κs. search needs)
+    (λ c κs. search needs)
+    (λ c κs. search needs)
     returns-3)

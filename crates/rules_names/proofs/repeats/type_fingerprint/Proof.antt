@@ -4,18 +4,6 @@ use borrow.Author.Needs.{needs}
 use Rattle.rules_names.proofs.repeats.type_fingerprint.Statement.{statement}
 use Rattle.rules_names.proofs.repeats.type_fingerprint.Tie as tie
 
-type-schema-requires : tie.Need-type-schema-requires
-type-schema-requires c κs = search needs
-
-type-name-requires : tie.Need-type-name-requires
-type-name-requires c κs = search needs
-
-text-of-requires : tie.Need-text-of-requires
-text-of-requires c κs = search needs
-
-fingerprint-of-requires : tie.Need-fingerprint-of-requires
-fingerprint-of-requires c κs = search needs
-
 returns : tie.Need-returns
 unfolding typeFingerprint modelOf
 returns c =
@@ -26,4 +14,4 @@ returns c =
 pub type-fingerprint-spec : {M : Type 1} → statement M
 type-fingerprint-spec =
     tie.close
-    (tie.spec type-schema-requires type-name-requires text-of-requires fingerprint-of-requires returns)
+    (tie.spec (λ c κs. search needs) (λ c κs. search needs) (λ c κs. search needs) (λ c κs. search needs) returns)

@@ -20,8 +20,8 @@ loop-holds c = (search needs, search needs, search needs, search needs, search n
 
 loop-again : tie.Need-loop-again Inv-loop μ-loop
 loop-again c =
-    let a = c .before .before .before .before .before .args in
-    let l = c .before .before .before .loop in
+    let a = c .before .before .before .before .before .before .args in
+    let l = c .before .before .before .before .loop in
     (search needs, search needs, search needs, rw length-set (l .inv .3), rw length-set (l .inv .4), row-more (l .a) (a .c) (c .with-row .result) (a .rows .now) (l .rows) (l .inv .5) (omega arith) (omega arith) (c .with-row .ensures))
 
 returns : tie.Need-returns Inv-loop μ-loop

@@ -10,13 +10,13 @@ use Rattle.rules_required_cycle.proofs.cycles.with_row.Tie as tie
 returns : tie.Need-returns
 returns c =
     let a = c .before .before .before .before .args in
-    let e : member (a .row) (a .c) ≡ true = sym (c .before .before .in-set .ensures) ∙ c .before .if1 .taken in
+    let e : member (a .set) (a .c) ≡ true = sym (c .before .before .in-set .ensures) ∙ c .before .if1 .taken in
     λ t h. rw (member-or (a .row) (getD (a .rows .now) (a .c) 0) t, e)
 
 returns-2 : tie.Need-returns-2
 returns-2 c =
     let a = c .before .before .before .args in
-    let e : member (a .row) (a .c) ≡ false = sym (c .before .in-set .ensures) ∙ c .if1 .left in
+    let e : member (a .set) (a .c) ≡ false = sym (c .before .in-set .ensures) ∙ c .if1 .left in
     λ t h. rw (e, or-false (member (a .row) t))
 
 pub with-row-spec : {M : Type 1} → statement M

@@ -10,10 +10,10 @@ use Rattle.rules_required_cycle.proofs.required.first_12.Statement.{sta
 use Rattle.rules_required_cycle.proofs.required.first_12.Tie as tie
 
 abbrev Inv-loop : tie.InvT-loop
-Inv-loop types properties cycles n t₀ t = First (λ t. type12 (modelOf [] types properties [] [] [] [] [] []) t) n t
+Inv-loop types properties ancestors cycles n t₀ t = First (λ t. type12 (modelOf [] types properties [] [] [] [] [] []) t) n t
 
 abbrev μ-loop : tie.MeasureT-loop
-μ-loop types properties cycles n t₀ t = n - t
+μ-loop types properties ancestors cycles n t₀ t = n - t
 
 returns : tie.Need-returns Inv-loop μ-loop
 returns c = rw (← c .before .before .before .before .type-count .ensures .0) (first-hit _ _ _ _ (c .before .before .before .loop .inv) (c .before .before .loop-test .taken) (asked _ _ (c .before .in-set .ensures) (c .before .before .before .before .before .types-on-cycles .ensures) (omega (arith, c .before .before .loop-test .taken, c .before .before .before .before .type-count .ensures .0))) (c .if1 .taken))

@@ -10,7 +10,7 @@ use Rattle.rules_required_cycle.proofs.required.types_on_cycles.Tie as 
 returns : tie.Need-returns
 unfolding modelOf
 returns c =
-    let a = c .before .before .before .before .before .args in
+    let a = c .before .before .before .before .before .before .args in
     let m = modelOf [] (a .types .now) (a .properties .now) [] [] [] [] [] [] in
     let rows = c .before .before .step-rows in
     let n = c .before .type-count in

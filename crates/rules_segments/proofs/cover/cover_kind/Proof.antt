@@ -1,4 +1,4 @@
-use Prim.Native.Nat.{ℕ, _+_, _-_, _≤_, _<_}
+use Prim.Native.Nat.{_-_, _≤_}
 use mathlib.Core.Path.{_≡_}
 use mathlib.Core.List.{[]}
 use native.Mathlib.Omega.{arith}
@@ -11,11 +11,6 @@ use Rattle.rules_segments.specs.Cover.{inside}
 use Rattle.rules_segments.proofs.Covering.{Tallied, tallied-start, tallied-more, tallied-small, added}
 use Rattle.rules_segments.proofs.cover.cover_kind.Statement.{statement}
 use Rattle.rules_segments.proofs.cover.cover_kind.Tie as tie
-use Rattle.rules_segments.proofs.cover.cover_kind.Reads as reads
-use Rattle.rules_segments.proofs.cover.cover_kind.Lts as lts
-use Rattle.rules_segments.proofs.cover.cover_run.Reads as cover-run-reads
-use Rattle.path_kinds.proofs.kinds.holder_count.Reads as holder-count-reads
-use Rattle.path_kinds.proofs.kinds.path_of.Reads as path-of-reads
 
 abbrev Inv-loop : tie.InvT-loop
 Inv-loop properties keys constraints bindings kind cover₀ n r₀ cover r = (r ≤ n) × (n ≤ 512) × (length cover ≡ length cover₀) × Tallied (λ k g. inRun (pathOf (modelOf [] [] properties keys constraints [] bindings [] []) kind k) g) cover₀ cover r × (n ≡ holders (modelOf [] [] properties keys constraints [] bindings [] []) kind)
@@ -23,28 +18,16 @@ Inv-loop properties keys constraints bindings kind cover₀ n r₀ cover r = (r 
 abbrev μ-loop : tie.MeasureT-loop
 μ-loop properties keys constraints bindings kind cover₀ n r₀ cover r = n - r
 
-holder-count-requires : tie.Need-holder-count-requires Inv-loop μ-loop
-holder-count-requires c κs = search needs
-
 loop-holds : tie.Need-loop-holds Inv-loop μ-loop
 loop-holds c =
     let a = c .before .before .before .before .before .before .args in
     (search needs, search needs, search needs, tallied-start (λ k g. inRun (pathOf (modelOf [] [] (a .properties .now) (a .keys .now) (a .constraints .now) [] (a .bindings .now) [] []) (a .kind) k) g) (a .cover .now), search needs)
-
-path-of-requires : tie.Need-path-of-requires Inv-loop μ-loop
-path-of-requires c κs = search needs
 
 cover-run-requires : tie.Need-cover-run-requires Inv-loop μ-loop
 cover-run-requires c κs =
     let a = c .before .before .before .before .before .before .before .before .before .before .args in
     let l = c .before .before .before .loop in
     (search needs, tallied-small (λ k g. inRun (pathOf (modelOf [] [] (a .properties .now) (a .keys .now) (a .constraints .now) [] (a .bindings .now) [] []) (a .kind) k) g) (a .cover .now) (l .cover) (l .r) 50000 10000 (l .inv .2) (l .inv .3) (omega arith) (c .before .before .before .before .before .before .before .before .before .before .pre .4))
-
-add-r : tie.Need-add-r Inv-loop μ-loop
-add-r c = search needs
-
-loop-less : tie.Need-loop-less Inv-loop μ-loop
-loop-less c = search needs
 
 loop-again : tie.Need-loop-again Inv-loop μ-loop
 unfolding inside
@@ -54,9 +37,6 @@ loop-again c =
     let e = c .before .before .cover-run .ensures in
     let q = c .before .before .before .before .path-of .ensures in
     (search needs, search needs, search needs, tallied-more (λ k g. inRun (pathOf (modelOf [] [] (a .properties .now) (a .keys .now) (a .constraints .now) [] (a .bindings .now) [] []) (a .kind) k) g) (a .cover .now) (l .cover) (c .before .before .cover-run .last .0) (l .r) (l .inv .2) (l .inv .3) (λ g h. added (pathOf (modelOf [] [] (a .properties .now) (a .keys .now) (a .constraints .now) [] (a .bindings .now) [] []) (a .kind) (l .r)) _ _ g _ _ (q .0) (q .1) (e .1 g h)), search needs)
-
-same-length : tie.Need-same-length Inv-loop μ-loop
-same-length c = search needs
 
 returns : tie.Need-returns Inv-loop μ-loop
 unfolding kindPathsWith
@@ -72,12 +52,12 @@ cover-kind-spec =
     (tie.spec
     Inv-loop
     μ-loop
-    holder-count-requires
+    (λ c κs. search needs)
     loop-holds
-    path-of-requires
+    (λ c κs. search needs)
     cover-run-requires
-    add-r
-    loop-less
+    (λ c. search needs)
+    (λ c. search needs)
     loop-again
-    same-length
+    (λ c. search needs)
     returns)

@@ -1,4 +1,4 @@
-use Prim.Native.Nat.{ℕ, _+_, _-_, _*_, _≤_, _<_}
+use Prim.Native.Nat.{_-_, _≤_}
 use mathlib.Core.Path.{_≡_, _∙_}
 use mathlib.Core.List.{[]}
 use native.Mathlib.Omega.{arith}
@@ -10,9 +10,6 @@ use Rattle.path_kinds.specs.Kinds.{kindAt}
 use Rattle.rules_segments.proofs.Covering.{Summed, summed-start, summed-more, all-kinds}
 use Rattle.rules_segments.proofs.cover.covers.Statement.{statement}
 use Rattle.rules_segments.proofs.cover.covers.Tie as tie
-use Rattle.rules_segments.proofs.cover.covers.Reads as reads
-use Rattle.rules_segments.proofs.cover.covers.Lts as lts
-use Rattle.rules_segments.proofs.cover.cover_kind.Reads as cover-kind-reads
 
 abbrev Inv-loop : tie.InvT-loop
 Inv-loop properties keys constraints bindings cover₀ n₀ cover n = (n ≤ 6) × (length cover ≡ 1024) × Summed (λ k g. kindPathsWith (modelOf [] [] properties keys constraints [] bindings [] []) (kindAt k) g) cover n
@@ -25,22 +22,10 @@ loop-holds c =
     let a = c .before .before .before .before .args in
     (search needs, search needs, summed-start (λ k g. kindPathsWith (modelOf [] [] (a .properties .now) (a .keys .now) (a .constraints .now) [] (a .bindings .now) [] []) (kindAt k) g))
 
-kind-at-requires : tie.Need-kind-at-requires Inv-loop μ-loop
-kind-at-requires c κs = search needs
-
-slice-aggregate-cover-kind : tie.Need-slice-aggregate-cover-kind Inv-loop μ-loop
-slice-aggregate-cover-kind c = search needs
-
 cover-kind-requires : tie.Need-cover-kind-requires Inv-loop μ-loop
 cover-kind-requires c κs =
     let l = c .before .before .before .loop in
     (search needs, search needs, search needs, search needs, λ g h. omega (arith, l .inv .2 g (omega arith) .1))
-
-add-n : tie.Need-add-n Inv-loop μ-loop
-add-n c = search needs
-
-loop-less : tie.Need-loop-less Inv-loop μ-loop
-loop-less c = search needs
 
 loop-again : tie.Need-loop-again Inv-loop μ-loop
 loop-again c =
@@ -63,10 +48,10 @@ covers-spec =
     Inv-loop
     μ-loop
     loop-holds
-    kind-at-requires
-    slice-aggregate-cover-kind
+    (λ c κs. search needs)
+    (λ c. search needs)
     cover-kind-requires
-    add-n
-    loop-less
+    (λ c. search needs)
+    (λ c. search needs)
     loop-again
     returns)

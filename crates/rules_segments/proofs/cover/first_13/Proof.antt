@@ -1,5 +1,5 @@
-use Prim.Native.Nat.{ℕ, _+_, _-_, _≤_, _<_}
-use mathlib.Core.Path.{_≡_, _∙_, sym, refl}
+use Prim.Native.Nat.{_-_, _≤_}
+use mathlib.Core.Path.{_≡_, sym, refl}
 use mathlib.Core.Bool.{true, false}
 use mathlib.Core.List.{[]}
 use native.Mathlib.Omega.{arith}
@@ -11,10 +11,6 @@ use Rattle.csdl.proofs.Loops.{First, first-start, first-hit, first-next, first-
 use Rattle.rules_segments.proofs.Covering.{covered-once, not-covered-once}
 use Rattle.rules_segments.proofs.cover.first_13.Statement.{statement}
 use Rattle.rules_segments.proofs.cover.first_13.Tie as tie
-use Rattle.rules_segments.proofs.cover.first_13.Reads as reads
-use Rattle.rules_segments.proofs.cover.first_13.Lts as lts
-use Rattle.model_image.proofs.segments.segment_count.Reads as segment-count-reads
-use Rattle.rules_segments.proofs.cover.covers.Reads as covers-reads
 
 abbrev Inv-loop : tie.InvT-loop
 Inv-loop properties keys constraints bindings segments cover n g₀ g = (n ≤ 1024) × (n ≡ segmentCount segments) × First (λ k. segment13 (modelOf [] [] properties keys constraints [] bindings segments []) k) n g
@@ -22,28 +18,10 @@ Inv-loop properties keys constraints bindings segments cover n g₀ g = (n ≤ 1
 abbrev μ-loop : tie.MeasureT-loop
 μ-loop properties keys constraints bindings segments cover n g₀ g = n - g
 
-covers-requires : tie.Need-covers-requires Inv-loop μ-loop
-covers-requires c κs = search needs
-
-segment-count-requires : tie.Need-segment-count-requires Inv-loop μ-loop
-segment-count-requires c κs = search needs
-
 loop-holds : tie.Need-loop-holds Inv-loop μ-loop
 loop-holds c =
     let a = c .before .before .before .before .before .before .before .args in
     (search needs, search needs, first-start (λ k. segment13 (modelOf [] [] (a .properties .now) (a .keys .now) (a .constraints .now) [] (a .bindings .now) (a .segments .now) []) k) (c .segment-count .result))
-
-cast-c : tie.Need-cast-c Inv-loop μ-loop
-cast-c c = search needs
-
-mul-c : tie.Need-mul-c Inv-loop μ-loop
-mul-c c = search needs
-
-array-read-c : tie.Need-array-read-c Inv-loop μ-loop
-array-read-c c = search needs
-
-add-result : tie.Need-add-result Inv-loop μ-loop
-add-result c = search needs
 
 returns : tie.Need-returns Inv-loop μ-loop
 returns c =
@@ -52,12 +30,6 @@ returns c =
     let n = c .before .before .before .segment-count in
     let e = c .before .before .before .before .covers .ensures (l .g) (omega arith) in
     rw (← n .ensures .0) (first-hit (λ k. segment13 (modelOf [] [] (a .properties .now) (a .keys .now) (a .constraints .now) [] (a .bindings .now) (a .segments .now) []) k) (n .result) (l .g) true (l .inv .2) (omega arith) (sym (not-covered-once (a .properties .now) (a .keys .now) (a .constraints .now) (a .bindings .now) (a .segments .now) (l .g) _ e (c .if1 .taken))) refl)
-
-add-g : tie.Need-add-g Inv-loop μ-loop
-add-g c = search needs
-
-loop-less : tie.Need-loop-less Inv-loop μ-loop
-loop-less c = search needs
 
 loop-again : tie.Need-loop-again Inv-loop μ-loop
 loop-again c =
@@ -80,15 +52,15 @@ first-13-spec =
     (tie.spec
     Inv-loop
     μ-loop
-    covers-requires
-    segment-count-requires
+    (λ c κs. search needs)
+    (λ c κs. search needs)
     loop-holds
-    cast-c
-    mul-c
-    array-read-c
-    add-result
+    (λ c. search needs)
+    (λ c. search needs)
+    (λ c. search needs)
+    (λ c. search needs)
     returns
-    add-g
-    loop-less
+    (λ c. search needs)
+    (λ c. search needs)
     loop-again
     returns-2)

@@ -13,16 +13,16 @@ use Rattle.rules_segments.proofs.unresolved.unresolved_of.Statement.{st
 use Rattle.rules_segments.proofs.unresolved.unresolved_of.Tie as tie
 
 abbrev Inv-loop : tie.InvT-loop
-Inv-loop image at index ancestors kind top codes₀ n low₀ r₀ codes low r =
-    (r ≤ n) × (length codes ≡ length codes₀) × (n ≡ holders (modelIn image) kind) × Least (λ j g. unresolvedIn (modelIn image) kind g j) top r low × KindStep (modelIn image) kind r codes₀ codes × PastKept (modelIn image) codes₀ codes
+Inv-loop image at index ancestors kind bound codes₀ n low₀ r₀ codes low r =
+    (r ≤ n) × (length codes ≡ length codes₀) × (n ≡ holders (modelIn image) kind) × Least (λ j g. unresolvedIn (modelIn image) kind g j) bound r low × KindStep (modelIn image) kind r codes₀ codes × PastKept (modelIn image) codes₀ codes
 
 abbrev μ-loop : tie.MeasureT-loop
-μ-loop image at index ancestors kind top codes₀ n low₀ r₀ codes low r = n - r
+μ-loop image at index ancestors kind bound codes₀ n low₀ r₀ codes low r = n - r
 
 loop-holds : tie.Need-loop-holds Inv-loop μ-loop
 loop-holds c =
     let a = c .before .before .before .before .before .args in
-    (search needs, search needs, c .holders-in .ensures .0, least-start (λ j g. unresolvedIn (modelIn (a .image .now)) (a .kind) g j) (a .top), kind-start (modelIn (a .image .now)) (a .kind) (a .codes .now), λ g h. refl)
+    (search needs, search needs, c .holders-in .ensures .0, least-start (λ j g. unresolvedIn (modelIn (a .image .now)) (a .kind) g j) (a .bound), kind-start (modelIn (a .image .now)) (a .kind) (a .codes .now), λ g h. refl)
 
 unresolved-in-requires : tie.Need-unresolved-in-requires Inv-loop μ-loop
 unresolved-in-requires c κs =
@@ -39,14 +39,14 @@ loop-again c =
     let l = c .before .before .before .before .before .loop in
     let s = c .before .before .unresolved-in in
     let there : l .r < holders (modelIn (a .image .now)) (a .kind) = rw (← l .inv .2) (search needs) in
-    (search needs, search needs, l .inv .2, least-more (λ j g. unresolvedIn (modelIn (a .image .now)) (a .kind) g j) (a .top) (l .r) (l .low) (s .result) (l .inv .3) (s .ensures .0), kind-more (modelIn (a .image .now)) (e .pre .2) (a .kind) (l .r) there (l .codes) _ (s .ensures .1) (a .codes .now) (l .inv .4), λ g h. path-past (modelIn (a .image .now)) (e .pre .2) (a .kind) (l .r) there (l .codes) _ (s .ensures .1) g h ∙ l .inv .5 g h)
+    (search needs, search needs, l .inv .2, least-more (λ j g. unresolvedIn (modelIn (a .image .now)) (a .kind) g j) (a .bound) (l .r) (l .low) (s .result) (l .inv .3) (s .ensures .0), kind-more (modelIn (a .image .now)) (e .pre .2) (a .kind) (l .r) there (l .codes) _ (s .ensures .1) (a .codes .now) (l .inv .4), λ g h. path-past (modelIn (a .image .now)) (e .pre .2) (a .kind) (l .r) there (l .codes) _ (s .ensures .1) g h ∙ l .inv .5 g h)
 
 returns : tie.Need-returns Inv-loop μ-loop
 returns c =
     let a = c .before .before .before .before .before .before .before .args in
     let l = c .before .loop in
     let e : l .r ≡ c .before .before .holders-in .result = omega arith in
-    (lowest-kind (modelIn (a .image .now)) (a .kind) (a .top) (l .r) (l .low) (e ∙ l .inv .2) (l .inv .3), (rw (e, l .inv .2) at (l .inv .4), l .inv .5))
+    (lowest-kind (modelIn (a .image .now)) (a .kind) (a .bound) (l .r) (l .low) (e ∙ l .inv .2) (l .inv .3), (rw (e, l .inv .2) at (l .inv .4), l .inv .5))
 
 pub unresolved-of-spec : {M : Type 1} → statement M
 unresolved-of-spec =

@@ -1,5 +1,5 @@
 use Prim.Native.Nat.{ℕ}
-use mathlib.Core.Path.{_≡_, _∙_, subst}
+use mathlib.Core.Path.{_∙_, subst}
 use mathlib.Core.List.{List}
 use native.Mathlib.Omega.{arith}
 use Rattle.sheet_lines.specs.Text.{decimal}

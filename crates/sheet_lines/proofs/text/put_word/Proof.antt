@@ -1,10 +1,10 @@
-use Prim.Native.Nat.{ℕ, _+_, _-_, _≤_, _<_}
+use Prim.Native.Nat.{ℕ, _+_, _-_, _≤_}
 use mathlib.Core.List.{List}
 use mathlib.Core.Path.{_≡_, subst}
 use native.Mathlib.Numerals.{add-one}
 use native.Mathlib.Omega.{arith}
 use borrow.Author.Needs.{needs}
-use lib.ListN.{length, getD, take}
+use lib.ListN.{length, take}
 use lib.Seq.{take-suc, take-all}
 use Rattle.sheet_lines.specs.Put.{Put}
 use Rattle.sheet_lines.proofs.Putting.{put-none, join}

@@ -20,96 +20,6 @@ above-at t = and 1 above-kinds.ps (is 1 above-kinds.ps μ-above t) above.Pre
 abbrev above-below : ℕ → In 1 above-kinds.ps
 above-below t = and 1 above-kinds.ps (falls 1 above-kinds.ps _<_ μ-above t) above.Pre
 
-above-returns : (t : ℕ) → above-lts.Need-returns (
-  type-base-reads.Asked,
-  type-base-reads.Learnt,
-  above-below t,
-  above.Post,
-  with-one-reads.Asked,
-  with-one-reads.Learnt,
-) (above-at t) above.Post
-above-returns t c = above-out _ _ _ (c .if1 .taken)
-
-above-type-base-requires : (t : ℕ) → above-lts.Need-type-base-requires (
-  type-base-reads.Asked,
-  type-base-reads.Learnt,
-  above-below t,
-  above.Post,
-  with-one-reads.Asked,
-  with-one-reads.Learnt,
-) (above-at t) above.Post
-above-type-base-requires t c κs = search needs
-
-above-returns-2 : (t : ℕ) → above-lts.Need-returns-2 (
-  type-base-reads.Asked,
-  type-base-reads.Learnt,
-  above-below t,
-  above.Post,
-  with-one-reads.Asked,
-  with-one-reads.Learnt,
-) (above-at t) above.Post
-above-returns-2 t c = above-none _ _ _ (c .before .type-base .ensures .0) _ (c .if2 .taken)
-
-above-sub-above : (t : ℕ) → above-lts.Need-sub-above (
-  type-base-reads.Asked,
-  type-base-reads.Learnt,
-  above-below t,
-  above.Post,
-  with-one-reads.Asked,
-  with-one-reads.Learnt,
-) (above-at t) above.Post
-above-sub-above t c = search needs
-
-above-sub-above-2 : (t : ℕ) → above-lts.Need-sub-above-2 (
-  type-base-reads.Asked,
-  type-base-reads.Learnt,
-  above-below t,
-  above.Post,
-  with-one-reads.Asked,
-  with-one-reads.Learnt,
-) (above-at t) above.Post
-above-sub-above-2 t c = search needs
-
-above-above-requires : (t : ℕ) → above-lts.Need-above-requires (
-  type-base-reads.Asked,
-  type-base-reads.Learnt,
-  above-below t,
-  above.Post,
-  with-one-reads.Asked,
-  with-one-reads.Learnt,
-) (above-at t) above.Post
-above-above-requires t c κs = search needs
-
-above-sub-with-one : (t : ℕ) → above-lts.Need-sub-with-one (
-  type-base-reads.Asked,
-  type-base-reads.Learnt,
-  above-below t,
-  above.Post,
-  with-one-reads.Asked,
-  with-one-reads.Learnt,
-) (above-at t) above.Post
-above-sub-with-one t c = search needs
-
-above-with-one-requires : (t : ℕ) → above-lts.Need-with-one-requires (
-  type-base-reads.Asked,
-  type-base-reads.Learnt,
-  above-below t,
-  above.Post,
-  with-one-reads.Asked,
-  with-one-reads.Learnt,
-) (above-at t) above.Post
-above-with-one-requires t c κs = search needs
-
-above-returns-3 : (t : ℕ) → above-lts.Need-returns-3 (
-  type-base-reads.Asked,
-  type-base-reads.Learnt,
-  above-below t,
-  above.Post,
-  with-one-reads.Asked,
-  with-one-reads.Learnt,
-) (above-at t) above.Post
-above-returns-3 t c = above-up _ _ _ (c .before .before .before .type-base .ensures .0) _ _ _ (c .before .before .before .before .if1 .left) (c .before .before .if2 .left) (c .before .above .ensures) (c .with-one .ensures)
-
 pub +above-spec : {M : Type 1} → statement M
 +above-spec = close μ-above λ t. above-lts.spec (
   type-base-reads.Asked,
@@ -121,12 +31,12 @@ pub +above-spec : {M : Type 1} → statement M
 )
     (above-at t)
     above.Post
-    (above-returns t)
-    (above-type-base-requires t)
-    (above-returns-2 t)
-    (above-sub-above t)
-    (above-sub-above-2 t)
-    (above-above-requires t)
-    (above-sub-with-one t)
-    (above-with-one-requires t)
-    (above-returns-3 t)
+    (λ c. above-out _ _ _ (c .if1 .taken))
+    (λ c κs. search needs)
+    (λ c. above-none _ _ _ (c .before .type-base .ensures .0) _ (c .if2 .taken))
+    (λ c. search needs)
+    (λ c. search needs)
+    (λ c κs. search needs)
+    (λ c. search needs)
+    (λ c κs. search needs)
+    (λ c. above-up _ _ _ (c .before .before .before .type-base .ensures .0) _ _ _ (c .before .before .before .before .if1 .left) (c .before .before .if2 .left) (c .before .above .ensures) (c .with-one .ensures))

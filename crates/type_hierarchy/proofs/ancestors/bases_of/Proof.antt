@@ -3,7 +3,6 @@ use mathlib.Core.Path.{_≡_, ap, _∙_}
 use mathlib.Core.List.{List}
 use lib.ListN.{length}
 use native.Mathlib.Omega.{arith}
-use Rattle.csdl.specs.Tables.{typeBase}
 use Rattle.csdl.proofs.Logic.{tab-length}
 use Rattle.type_hierarchy.proofs.Tables.{tab-more}
 use Rattle.type_hierarchy.proofs.AncestorSets.{basesTo, bases-start, bases-end}

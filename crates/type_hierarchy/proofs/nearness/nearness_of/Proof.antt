@@ -3,18 +3,9 @@ use borrow.Author.Needs.{needs}
 use Rattle.type_hierarchy.proofs.nearness.nearness_of.Statement.{statement}
 use Rattle.type_hierarchy.proofs.nearness.nearness_of.Tie as tie
 
-slice-aggregate-climb : tie.Need-slice-aggregate-climb
-slice-aggregate-climb c = search needs
-
-type-count-requires : tie.Need-type-count-requires
-type-count-requires c κs = search needs
-
-climb-requires : tie.Need-climb-requires
-climb-requires c κs = search needs
-
 returns : tie.Need-returns
 returns c = rw (← c .before .before .type-count .ensures .0) (is-nearness _ _ _ _ (c .before .climb .ensures))
 
 pub nearness-of-spec : {M : Type 1} → statement M
 nearness-of-spec =
-    tie.close (tie.spec slice-aggregate-climb type-count-requires climb-requires returns)
+    tie.close (tie.spec (λ c. search needs) (λ c κs. search needs) (λ c κs. search needs) returns)

@@ -1,5 +1,5 @@
 use Prim.Native.Nat.{ℕ, _+_, _-_, _≤_, _<_, zero-le}
-use mathlib.Core.Path.{_≡_, refl, sym, ap, _∙_}
+use mathlib.Core.Path.{_≡_, refl, ap, _∙_}
 use mathlib.Core.List.{List}
 use mathlib.Core.Logic.{⊎-elim}
 use native.Mathlib.Omega.{arith}
@@ -20,38 +20,11 @@ Inv-loop types properties index t nearness n found₀ near₀ p₀ found near p 
 abbrev μ-loop : tie.MeasureT-loop
 μ-loop types properties index t nearness n found₀ near₀ p₀ found near p = n - p
 
-nearness-of-requires : tie.Need-nearness-of-requires Inv-loop μ-loop
-nearness-of-requires c κs = search needs
-
-property-count-requires : tie.Need-property-count-requires Inv-loop μ-loop
-property-count-requires c κs = search needs
-
 loop-holds : tie.Need-loop-holds Inv-loop μ-loop
 loop-holds c = let s = c .before .before .before .before .before in (zero-le, c .property-count .ensures .1, meant-start _ _ _ _ _, c .before .nearness-of .ensures, s .pre .3, s .pre .4, c .property-count .ensures .0)
 
-cast-h : tie.Need-cast-h Inv-loop μ-loop
-cast-h c = search needs
-
-add-h : tie.Need-add-h Inv-loop μ-loop
-add-h c = search needs
-
-mul-h : tie.Need-mul-h Inv-loop μ-loop
-mul-h c = search needs
-
-shared-slice-read-h : tie.Need-shared-slice-read-h Inv-loop μ-loop
-shared-slice-read-h c = search needs
-
 cast-h-2 : tie.Need-cast-h-2 Inv-loop μ-loop
 cast-h-2 c = let l = c .before .before .loop in record { fits = entry-fits (c .before .before .before .before .before .before .before .before .args .index .now) _ _ _ (l .inv .5) (l .inv .6) (c .before .loop-test .taken) }
-
-property-owner-requires : tie.Need-property-owner-requires Inv-loop μ-loop
-property-owner-requires c κs = search needs
-
-cast-left : tie.Need-cast-left Inv-loop μ-loop
-cast-left c = search needs
-
-mul-left : tie.Need-mul-left Inv-loop μ-loop
-mul-left c = search needs
 
 array-read-left : tie.Need-array-read-left Inv-loop μ-loop
 array-read-left c = let l = c .before .before .before .loop in omega (arith, ap (λ (x : List ℕ). length x) (l .inv .3) ∙ nearness-size _ _ _, c .property-owner .ensures .1)
@@ -68,20 +41,11 @@ mul-near c = let l = c .before .before .before .before .loop in record { fits = 
 array-write-near : tie.Need-array-write-near Inv-loop μ-loop
 array-write-near c = let l = c .before .before .before .before .loop in entry-below (c .before .before .before .before .before .before .before .before .before .before .args .index .now) _ _ _ (l .inv .5) (l .inv .6) (c .before .before .before .loop-test .taken)
 
-add-found : tie.Need-add-found Inv-loop μ-loop
-add-found c = search needs
-
 mul-found : tie.Need-mul-found Inv-loop μ-loop
 mul-found c = let l = c .before .before .before .before .loop in record { fits = entry-doubled (c .before .before .before .before .before .before .before .before .before .before .args .index .now) _ _ _ (l .inv .5) (l .inv .6) (c .before .before .before .loop-test .taken) }
 
 array-write-found : tie.Need-array-write-found Inv-loop μ-loop
 array-write-found c = let l = c .before .before .before .before .loop in entry-below (c .before .before .before .before .before .before .before .before .before .before .args .index .now) _ _ _ (l .inv .5) (l .inv .6) (c .before .before .before .loop-test .taken)
-
-add-p : tie.Need-add-p Inv-loop μ-loop
-add-p c = search needs
-
-loop-less : tie.Need-loop-less Inv-loop μ-loop
-loop-less c = search needs
 
 loop-again : tie.Need-loop-again Inv-loop μ-loop
 loop-again c = let l = c .before .before .before .before .loop in
@@ -110,26 +74,26 @@ meaning-of-spec =
     (tie.spec
     Inv-loop
     μ-loop
-    nearness-of-requires
-    property-count-requires
+    (λ c κs. search needs)
+    (λ c κs. search needs)
     loop-holds
-    cast-h
-    add-h
-    mul-h
-    shared-slice-read-h
+    (λ c. search needs)
+    (λ c. search needs)
+    (λ c. search needs)
+    (λ c. search needs)
     cast-h-2
-    property-owner-requires
-    cast-left
-    mul-left
+    (λ c κs. search needs)
+    (λ c. search needs)
+    (λ c. search needs)
     array-read-left
     mul-if1
     array-read-if1
     mul-near
     array-write-near
-    add-found
+    (λ c. search needs)
     mul-found
     array-write-found
-    add-p
-    loop-less
+    (λ c. search needs)
+    (λ c. search needs)
     loop-again
     returns)

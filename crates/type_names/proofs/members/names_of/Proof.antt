@@ -1,5 +1,5 @@
-use Prim.Native.Nat.{ℕ, suc, _+_, _-_, _≤_, _<_}
-use mathlib.Core.Path.{_≡_, refl, sym, ap, _∙_}
+use Prim.Native.Nat.{ℕ, _+_, _-_, _≤_}
+use mathlib.Core.Path.{_≡_, refl, sym, _∙_}
 use mathlib.Core.Logic.{⊎-elim}
 use mathlib.Core.List.{[]}
 use mathlib.Core.Bool.{Bool, true, false, _&&_}
@@ -30,20 +30,8 @@ abbrev μ-loop : tie.MeasureT-loop
 meaning-of-requires : tie.Need-meaning-of-requires Inv-loop μ-loop
 meaning-of-requires c κs = let s = c .before .before .before .before .pre in (s .0, s .1, s .2, s .3 .size, entry-lt _ _ _ (s .3) (omega arith))
 
-property-count-requires : tie.Need-property-count-requires Inv-loop μ-loop
-property-count-requires c κs = search needs
-
 loop-holds : tie.Need-loop-holds Inv-loop μ-loop
 loop-holds c = let s = c .before .before .before .before .before .before in (search needs, search needs, c .property-count .ensures .0, search needs, λ q h. wide-none q h ∙ sym (below-none (λ k. isNameOf (modelOf [] (s .args .types .now) (s .args .properties .now) [] [] [] [] [] (s .args .names .now)) (s .args .t) k) 0 q refl), c .before .meaning-of .ensures, s .pre .3)
-
-cast-if1 : tie.Need-cast-if1 Inv-loop μ-loop
-cast-if1 c = search needs
-
-add-if1 : tie.Need-add-if1 Inv-loop μ-loop
-add-if1 c = search needs
-
-mul-if1 : tie.Need-mul-if1 Inv-loop μ-loop
-mul-if1 c = search needs
 
 shared-slice-read-if1 : tie.Need-shared-slice-read-if1 Inv-loop μ-loop
 shared-slice-read-if1 c = let l = c .before .before .loop in omega (arith, l .inv .6 .size)
@@ -56,18 +44,6 @@ mul-if1-2 c = let l = c .before .before .loop in omega (arith, entry-lt _ _ _ (l
 
 array-read-if1 : tie.Need-array-read-if1 Inv-loop μ-loop
 array-read-if1 c = let l = c .before .before .loop in omega (arith, entry-lt _ _ _ (l .inv .6) (omega arith) (l .p) (omega arith), l .inv .5 .size)
-
-add-if1-2 : tie.Need-add-if1-2 Inv-loop μ-loop
-add-if1-2 c = search needs
-
-with-wide-requires : tie.Need-with-wide-requires Inv-loop μ-loop
-with-wide-requires c κs = search needs
-
-add-p : tie.Need-add-p Inv-loop μ-loop
-add-p c = search needs
-
-loop-less : tie.Need-loop-less Inv-loop μ-loop
-loop-less c = search needs
 
 loop-again : tie.Need-loop-again Inv-loop μ-loop
 loop-again c = let l = c .before .before .before .loop in
@@ -90,18 +66,18 @@ names-of-spec =
     Inv-loop
     μ-loop
     meaning-of-requires
-    property-count-requires
+    (λ c κs. search needs)
     loop-holds
-    cast-if1
-    add-if1
-    mul-if1
+    (λ c. search needs)
+    (λ c. search needs)
+    (λ c. search needs)
     shared-slice-read-if1
     cast-if1-2
     mul-if1-2
     array-read-if1
-    add-if1-2
-    with-wide-requires
-    add-p
-    loop-less
+    (λ c. search needs)
+    (λ c κs. search needs)
+    (λ c. search needs)
+    (λ c. search needs)
     loop-again
     returns)

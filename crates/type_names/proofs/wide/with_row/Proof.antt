@@ -1,7 +1,7 @@
-use Prim.Native.Nat.{ℕ, _+_, _*_, _-_, _≤_, _<_}
-use mathlib.Core.Path.{_≡_, refl}
+use Prim.Native.Nat.{_-_, _<_}
+use mathlib.Core.Path.{_≡_}
 use native.Mathlib.Omega.{arith}
-use lib.ListN.{length, getD}
+use lib.ListN.{length}
 use Rattle.type_names.proofs.WideLaws.{Writing, writing-start, writing-next, writing-end}
 use borrow.Author.Needs.{needs}
 use Rattle.type_names.proofs.wide.with_row.Statement.{statement}
@@ -13,32 +13,8 @@ Inv-loop t row from next₀ k₀ next k = Writing next₀ row t next k × (lengt
 abbrev μ-loop : tie.MeasureT-loop
 μ-loop t row from next₀ k₀ next k = 8 - k
 
-mul-from : tie.Need-mul-from Inv-loop μ-loop
-mul-from c = search needs
-
 loop-holds : tie.Need-loop-holds Inv-loop μ-loop
 loop-holds c = (writing-start _ _ _ (c .pre .0), search needs, search needs)
-
-mul-word : tie.Need-mul-word Inv-loop μ-loop
-mul-word c = search needs
-
-array-read-word : tie.Need-array-read-word Inv-loop μ-loop
-array-read-word c = search needs
-
-add-next : tie.Need-add-next Inv-loop μ-loop
-add-next c = search needs
-
-mul-next : tie.Need-mul-next Inv-loop μ-loop
-mul-next c = search needs
-
-array-write-next : tie.Need-array-write-next Inv-loop μ-loop
-array-write-next c = search needs
-
-add-k : tie.Need-add-k Inv-loop μ-loop
-add-k c = search needs
-
-loop-less : tie.Need-loop-less Inv-loop μ-loop
-loop-less c = search needs
 
 loop-again : tie.Need-loop-again Inv-loop μ-loop
 loop-again c = let l = c .before .loop in (writing-next _ _ _ _ _ (l .inv .2) (omega arith) (l .inv .0), search needs, search needs)
@@ -52,14 +28,14 @@ with-row-spec =
     (tie.spec
     Inv-loop
     μ-loop
-    mul-from
+    (λ c. search needs)
     loop-holds
-    mul-word
-    array-read-word
-    add-next
-    mul-next
-    array-write-next
-    add-k
-    loop-less
+    (λ c. search needs)
+    (λ c. search needs)
+    (λ c. search needs)
+    (λ c. search needs)
+    (λ c. search needs)
+    (λ c. search needs)
+    (λ c. search needs)
     loop-again
     returns)
