@@ -12,7 +12,7 @@ use lib.Seq.{getD-set-same, getD-set-other}
 use borrow.Author.Tests.{eqb-true, eqb-false, eq-eqb, ne-eqb, ltb-true, ltb-false}
 use mathlib.Core.Logic.{⊎-elim}
 use Rattle.csdl.specs.Search.{anyFrom}
-use Rattle.csdl.proofs.Logic.{not-so, and-cases, or-cases, or-no}
+use Rattle.csdl.proofs.Logic.{not-so, and-cases, or-cases, or-no, equal-or-not}
 use Rattle.type_hierarchy.specs.Sets.{member, Members}
 use Rattle.type_hierarchy.proofs.SetLaws.{member-none, member-or}
 use Rattle.instance_runs.proofs.Fills.{zeros}
@@ -22,14 +22,6 @@ use Rattle.instance_containment.specs.Rows.{inRow, withStep, Steps, Pass
 pub none-in : (v w : ℕ) → inRow (replicate 1024 0) v w ≡ false
 unfolding inRow
 none-in v w = rw (zeros 1024 (4 * v + w / 64)) (member-none (w % 64))
-
--- Two numbers are equal, or they are not.
-either : {A : Type 0} (x y : ℕ) → (x ≡ y → A) → ((x ≡ y → ⊥) → A) → A
-either {A} x y f g = go (eqb x y) refl
-  where
-    go : (b : Bool) → eqb x y ≡ b → A
-    go true e = f (eqb-true x y e)
-    go false e = g (eqb-false x y e)
 
 -- A number plus 1, of at most 256 numbers.
 pub no-number : (x : ℕ) → (eqb x 0 || ltb 256 x) ≡ true → (v : ℕ) → v < 256 → x ≡ suc v → ⊥
@@ -56,7 +48,7 @@ module _ (rows : List ℕ) (size : length rows ≡ 1024) where
     same-bit v w e l =
         let z : from ≡ suc v = omega (arith, e, l, f, t, u) in
         rw (eq-eqb from (suc v) z)
-        (either to (suc w)
+        (equal-or-not to (suc w)
         (λ q. let r : (to - 1) % 64 ≡ w % 64 = omega (arith, q) in rw (eq-eqb to (suc w) q, eq-eqb ((to - 1) % 64) (w % 64) r))
         (λ q. rw (ne-eqb to (suc w) q) (sym (ne-eqb ((to - 1) % 64) (w % 64) (λ r. q (omega (arith, r, e, z, t)))))))
 
@@ -68,7 +60,7 @@ module _ (rows : List ℕ) (size : length rows ≡ 1024) where
             → member (getD (set rows (4 * (from - 1) + (to - 1) / 64) x) (4 * v + w / 64) 0) (w % 64)
             ≡ (eqb to (suc w) && eqb from (suc v) || member (getD rows (4 * v + w / 64) 0) (w % 64))
         at v w h l =
-            either (4 * v + w / 64) (4 * (from - 1) + (to - 1) / 64)
+            equal-or-not (4 * v + w / 64) (4 * (from - 1) + (to - 1) / 64)
             (λ e. rw (same-bit v w e l, e, getD-set-same rows (4 * (from - 1) + (to - 1) / 64) x 0 (omega (arith, f, g, t, u, size)), more (w % 64) (omega arith)) (turned (member (getD rows (4 * (from - 1) + (to - 1) / 64) 0) (w % 64)) (eqb ((to - 1) % 64) (w % 64))))
             (λ e. rw (getD-set-other rows (4 * (from - 1) + (to - 1) / 64) (4 * v + w / 64) x 0 e, apart v w e))
           where
@@ -101,13 +93,13 @@ module _ (v c : ℕ) (before : List ℕ) where
     -- row c has not changed yet from j on
     other-row : getD rows (4 * c + j) 0 ≡ getD before (4 * c + j) 0
     other-row =
-        either c v (λ e. rw e (p .still j (omega arith)))
+        equal-or-not c v (λ e. rw e (p .still j (omega arith)))
         (λ e. p .kept (4 * c + j) (λ q. e (omega (arith, q, few))))
 
     pub joining-more : Joining (set rows (4 * v + j) (bitOr (getD rows (4 * v + j) 0) (getD rows (4 * c + j) 0))) (j + 1)
     joining-more = record {
       size = length-set rows (4 * v + j) (bitOr (getD rows (4 * v + j) 0) (getD rows (4 * c + j) 0)) ∙ p .size;
-      done = λ i h. either i j
+      done = λ i h. equal-or-not i j
           (λ e. rw (e, getD-set-same rows (4 * v + j) (bitOr (getD rows (4 * v + j) 0) (getD rows (4 * c + j) 0)) 0 (omega (arith, p .size, few, low)), p .still j (omega arith), other-row))
           (λ e. getD-set-other rows (4 * v + j) (4 * v + i) (bitOr (getD rows (4 * v + j) 0) (getD rows (4 * c + j) 0)) 0 (λ q. e (omega (arith, q))) ∙ p .done i (omega (arith, h, e)));
       still = λ i h. getD-set-other rows (4 * v + j) (4 * v + i) (bitOr (getD rows (4 * v + j) 0) (getD rows (4 * c + j) 0)) 0 (λ q. let z : 4 * v + i ≡ 4 * v + j = q in omega (arith, z, h)) ∙ p .still i (omega arith);

@@ -1,7 +1,7 @@
 -- Rule 20 leaves what `Sized` says. Assumes nothing.
-use mathlib.Core.Path.{_≡_, refl}
+use mathlib.Core.Path.{_≡_}
 use mathlib.Core.List.{List}
-use mathlib.Core.Bool.{Bool, true, false, _||_}
+use mathlib.Core.Bool.{false, _||_}
 use Prim.Native.Nat.{ℕ, _+_, _-_, _*_, _≤_}
 use native.Mathlib.Omega.{arith}
 use lib.Dec.{ltb}
@@ -11,10 +11,7 @@ use Rattle.packed.specs.Bytes.{between}
 use Rattle.csdl.specs.Image.{header}
 use Rattle.csdl.specs.Instance.{itemForm, instanceOf, instanceIn, image20, image20a, image20b, image20c, image20d}
 use Rattle.instance_image.specs.Sized.{Sized}
-
-or-no : (a b : Bool) → (a || b) ≡ false → (a ≡ false) × (b ≡ false)
-or-no true b e = (e, cc)
-or-no false b e = (refl, e)
+use Rattle.csdl.proofs.Logic.{or-no}
 
 -- The length of a part that lies within.
 between-length : (s : List ℕ) (a e : ℕ) → e ≤ length s → length (between s a e) ≡ e - a

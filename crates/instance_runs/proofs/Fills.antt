@@ -15,6 +15,7 @@ use Rattle.csdl.specs.declared.Run.{Run}
 use Rattle.csdl.specs.Model.{inRun}
 use Rattle.csdl.proofs.Logic.{tab-length, tab-at}
 use Rattle.instance_runs.specs.Tables.{Tabulates, changed, toTwo}
+use Rattle.csdl.proofs.Loops.{one-more, none-left}
 
 -- An array that has f at each of its places is the table of f, and the other way round.
 module _ (f : ℕ → ℕ) (n : ℕ) (array : List ℕ) where
@@ -109,12 +110,6 @@ zeros zero w = refl
 zeros (suc n) zero = refl
 zeros (suc n) (suc w) = zeros n w
 
-one-down : (n u : ℕ) → u < n → n - u ≡ suc (n - (u + 1))
-one-down n u h = omega arith
-
-none-yet : (n v : ℕ) → n ≤ v → n - v ≡ 0
-none-yet n v h = omega arith
-
 -- The first run from v on, of n, that has place k; how many of them have it, at most 2.
 unfoldable pub firstIn : (ℕ → Run) → ℕ → ℕ → ℕ → ℕ
 firstIn run n v k = firstFrom (λ u. inRun (run u) k) v (n - v)
@@ -126,11 +121,11 @@ countIn run n v k = toTwo (countFrom (λ u. inRun (run u) k) v (n - v))
 module _ (run : ℕ → Run) (n m : ℕ) where
   pub first-none : (v : ℕ) → n ≤ v → Tabulates (firstIn run n v) m (replicate m 0)
   unfolding firstIn firstFrom
-  first-none v h = record { size = length-replicate m 0; at = λ k l. zeros m k ∙ rw (none-yet n v h) }
+  first-none v h = record { size = length-replicate m 0; at = λ k l. zeros m k ∙ rw (none-left n v h) }
 
   pub count-none : (v : ℕ) → n ≤ v → Tabulates (countIn run n v) m (replicate m 0)
   unfolding countIn sumFrom
-  count-none v h = record { size = length-replicate m 0; at = λ k l. zeros m k ∙ rw (none-yet n v h) }
+  count-none v h = record { size = length-replicate m 0; at = λ k l. zeros m k ∙ rw (none-left n v h) }
 
   module _ (u v a b : ℕ) (e : v ≡ u + 1) (p : a ≡ run u .first) (q : b ≡ run u .count) (before after : List ℕ) where
     pub first-down : u < n → (x : ℕ) → x ≡ u + 1 → Tabulates (firstIn run n v) m before → after ≡ changed (λ y. x) (record { first = a; count = b }) before
@@ -140,7 +135,7 @@ module _ (run : ℕ → Run) (n m : ℕ) where
         let c = changes _ _ before after made in
         record {
           size = c .size ∙ i .size;
-          at = λ k l. c .at k (omega (arith, i .size)) ∙ rw (i .at k l, p, q, one-down n u h, e, g, add-one u);
+          at = λ k l. c .at k (omega (arith, i .size)) ∙ rw (i .at k l, p, q, one-more n u h, e, g, add-one u);
         }
 
     pub count-down : u < n → Tabulates (countIn run n v) m before → after ≡ changed (λ y. toTwo (y + 1)) (record { first = a; count = b }) before
@@ -150,7 +145,7 @@ module _ (run : ℕ → Run) (n m : ℕ) where
         let c = changes _ _ before after made in
         record {
           size = c .size ∙ i .size;
-          at = λ k l. c .at k (omega (arith, i .size)) ∙ rw (i .at k l, p, q, one-down n u h, e) (go (inRun (run u) k) (sumFrom (λ w. oneIf (inRun (run w) k)) (u + 1) (n - (u + 1))));
+          at = λ k l. c .at k (omega (arith, i .size)) ∙ rw (i .at k l, p, q, one-more n u h, e) (go (inRun (run u) k) (sumFrom (λ w. oneIf (inRun (run w) k)) (u + 1) (n - (u + 1))));
         }
       where
         go : (t : Bool) (s : ℕ) → cond t (toTwo (toTwo s + 1)) (toTwo s) ≡ toTwo (oneIf t + s)
@@ -183,7 +178,7 @@ latestIn run value n v k = latest run value k v (n - v)
 module _ (run : ℕ → Run) (value : ℕ → ℕ) (n m : ℕ) where
   pub latest-none : (v : ℕ) → n ≤ v → Tabulates (latestIn run value n v) m (replicate m 0)
   unfolding latestIn latest
-  latest-none v h = record { size = length-replicate m 0; at = λ k l. zeros m k ∙ rw (none-yet n v h) }
+  latest-none v h = record { size = length-replicate m 0; at = λ k l. zeros m k ∙ rw (none-left n v h) }
 
   module _ (u v a b : ℕ) (e : v ≡ u + 1) (p : a ≡ run u .first) (q : b ≡ run u .count) (before after : List ℕ) where
     pub latest-down : u < n → (x : ℕ) → x ≡ value u → Tabulates (latestIn run value n v) m before
@@ -192,7 +187,7 @@ module _ (run : ℕ → Run) (value : ℕ → ℕ) (n m : ℕ) where
     unfolding latestIn latest
     latest-down h x g i made =
         let c = changes _ _ before after made in
-        record { size = c .size ∙ i .size; at = λ k l. c .at k (omega (arith, i .size)) ∙ rw (i .at k l, p, q, one-down n u h, e, g) }
+        record { size = c .size ∙ i .size; at = λ k l. c .at k (omega (arith, i .size)) ∙ rw (i .at k l, p, q, one-more n u h, e, g) }
 
   pub latest-all : (v : ℕ) (f : ℕ → ℕ) (l : List ℕ) → v ≤ 0 → ((k : ℕ) → f k ≡ latest run value k 0 n) → Tabulates (latestIn run value n v) m l → Tabulates f m l
   unfolding latestIn

@@ -18,6 +18,7 @@ use Rattle.csdl.proofs.Logic.{first-found, first-none, first-same, equal-or-not
 use Rattle.name_classes.specs.Classes.{nameOf, Ranked}
 use Rattle.name_classes.proofs.Ranks.{small, same-class, entry-first, ranked-kept}
 use Rattle.lookup.specs.Index.{namedFrom, Indexed}
+use Rattle.csdl.proofs.Loops.{one-more}
 
 -- ---- filling, of n numbers in the classes that `at` gives
 module _ (at : ℕ → ℕ) (n : ℕ) (old : List ℕ) where
@@ -28,16 +29,13 @@ module _ (at : ℕ → ℕ) (n : ℕ) (old : List ℕ) where
   unfolding firstFrom
   chain-none b = rw (sub-self n)
 
-  one-more : (p : ℕ) → p < n → n - p ≡ suc (n - (p + 1))
-  one-more p h = omega arith
-
   chain-here : (b p : ℕ) → p < n → at p ≡ b → chain b p ≡ suc p
   unfolding firstFrom
-  chain-here b p h e = rw (one-more p h, eq-eqb (at p) b e)
+  chain-here b p h e = rw (one-more n p h, eq-eqb (at p) b e)
 
   chain-on : (b p : ℕ) → p < n → (at p ≡ b → ⊥) → chain b p ≡ chain b (p + 1)
   unfolding firstFrom
-  chain-on b p h e = rw (one-more p h, ne-eqb (at p) b e)
+  chain-on b p h e = rw (one-more n p h, ne-eqb (at p) b e)
 
   -- The entries when the numbers from p on are in.
   pub record Filled (p : ℕ) (index later : List ℕ) : Type 0 where

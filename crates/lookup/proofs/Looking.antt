@@ -5,14 +5,12 @@ use mathlib.Core.List.{List}
 use mathlib.Core.Bool.{Bool, true, false}
 use mathlib.Core.Logic.{⊎-elim}
 use native.Mathlib.Nat.{eq-or-lt-of-le}
-use lib.Dec.{ltb}
-use borrow.Author.Tests.{ltb-true, ltb-false}
 use native.Mathlib.Omega.{arith}
 use lib.ListN.{getD}
 use Rattle.packed.specs.Bytes.{same}
 use Rattle.csdl.specs.Search.{anyFrom}
 use Rattle.csdl.specs.Tables.{propertyCount, propertyOwner}
-use Rattle.csdl.proofs.Logic.{none-any}
+use Rattle.csdl.proofs.Logic.{none-any, below-or-not}
 use Rattle.name_classes.specs.Classes.{nameOf}
 use Rattle.type_hierarchy.specs.Near.{leftAt, only}
 use Rattle.lookup.specs.Index.{namedFrom, Indexed}
@@ -23,14 +21,6 @@ use Rattle.lookup.proofs.Chain.{Reached, reached, ended, goes-on}
 abbrev pub remaining : ℕ → ℕ → ℕ
 remaining n zero = 0
 remaining n (suc p) = suc (n - p)
-
--- Of numbers below a limit, those below m and the others.
-split : {A : Type 0} (q m : ℕ) → (q < m → A) → (m ≤ q → A) → A
-split {A = A} q m f g = go (ltb q m) refl
-  where
-    go : (b : Bool) → ltb q m ≡ b → A
-    go true e = f (ltb-true q m e)
-    go false e = g (ltb-false q m e)
 
 remaining-less : (n p a : ℕ) → p < n → ((q : ℕ) → a ≡ suc q → (p + 1 ≤ q) × (q < n)) → remaining n a < remaining n (suc p)
 remaining-less n p zero h f = omega arith
@@ -124,7 +114,7 @@ module _ (properties names name index : List ℕ) (x : Indexed properties names 
       below : (some : 0 < a) → (q : ℕ) → q < a - 1 → test q ≡ false
       below some q h =
           let r = on-reach a (s .upto) (s .on) some in
-          split q (s .upto) (λ l. s .none q l) (λ g. named q (r .skips q g h))
+          below-or-not q (s .upto) (λ l. s .none q l) (λ g. named q (r .skips q g h))
 
       pub searched-next : (some : 0 < a) (next : ℕ) (e : next ≡ getD index (1024 + (a - 1)) 0) → test (a - 1) ≡ false → Searched next
       searched-next some next e f = record {
@@ -137,5 +127,5 @@ module _ (properties names name index : List ℕ) (x : Indexed properties names 
       searched-end limit most stop = none-any test 0 limit (λ q l h. go a refl q (omega (arith, h)))
         where
           go : (b : ℕ) → a ≡ b → (q : ℕ) → q < limit → test q ≡ false
-          go zero e q h = split q (s .upto) (λ l. s .none q l) (λ g. named q (on-ended a (s .upto) (s .on) e q g (omega (arith, h, most))))
+          go zero e q h = below-or-not q (s .upto) (λ l. s .none q l) (λ g. named q (on-ended a (s .upto) (s .on) e q g (omega (arith, h, most))))
           go (suc b) e q h = let some : 0 < a = omega (arith, e) in below some q (omega (arith, h, stop some))

@@ -18,6 +18,7 @@ use Rattle.model_rules.specs.Stages.{formed}
 use Rattle.model_rules.proofs.Order.{name-formed}
 use Rattle.model_rules.proofs.Tables.{record-cases}
 use Rattle.model_naming.specs.Named.{nameAt, nameStart, nameSize}
+use borrow.Author.Tests.{not-true, not-false}
 
 -- Wherever the counts say that the name bytes begin, they begin before byte 4,000,000.
 pub names-below : (image : List ℕ) → namesFrom image < 4000000
@@ -35,19 +36,11 @@ module _ (types : List ℕ) (t : ℕ) (few : length types ≤ 384) (past : 64 �
 module _ (m : Model) (place : ℕ) where
   pub name-unformed : (b : Bool) → b ≡ formed m → not b ≡ true → nameAt m place ≡ noName
   unfolding nameAt
-  name-unformed b e n = rw (← e, off b n)
-    where
-      off : (x : Bool) → not x ≡ true → x ≡ false
-      off true q = sym q
-      off false q = refl
+  name-unformed b e n = rw (← e, not-true b n)
 
   pub name-formed-at : (b : Bool) → b ≡ formed m → not b ≡ false → nameAt m place ≡ nameHeld m (recordAt m place)
   unfolding nameAt
-  name-formed-at b e n = rw (← e, on b n)
-    where
-      on : (x : Bool) → not x ≡ false → x ≡ true
-      on true q = refl
-      on false q = sym q
+  name-formed-at b e n = rw (← e, not-false b n)
 
   past-held : places m ≤ place → nameHeld m (recordAt m place) ≡ noName
   unfolding nameHeld

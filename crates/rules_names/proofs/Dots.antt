@@ -1,5 +1,5 @@
 -- Loops over the bytes of a list: a test of every byte, and the parts between dots. Assumes nothing.
-use mathlib.Core.Path.{_≡_, refl, sym}
+use mathlib.Core.Path.{_≡_, refl}
 use mathlib.Core.List.{List, [], _∷_}
 use mathlib.Core.Bool.{Bool, true, false, cond, not, _&&_, and-true}
 use Prim.Native.Nat.{ℕ, suc, _+_, _-_, _≤_, _<_}
@@ -8,7 +8,7 @@ use native.Mathlib.Omega.{arith}
 use lib.Dec.{eqb}
 use lib.ListN.{length, getD, take, drop, length-drop, drop-of-length-le}
 use lib.Seq.{drop-cons, drop-drop, take-all}
-use borrow.Author.Tests.{eq-eqb, ne-eqb}
+use borrow.Author.Tests.{eq-eqb, ne-eqb, not-true, not-false}
 use Rattle.csdl.specs.Search.{all}
 use Rattle.csdl.specs.Form.{withFirst, dotted}
 use Rattle.rules_names.specs.Dots.{untilDot}
@@ -17,14 +17,6 @@ use Rattle.rules_names.specs.Dots.{untilDot}
 pub record All (test : ℕ → Bool) (s : List ℕ) (i : ℕ) : Type 0 where
   pub most : i ≤ length s
   pub rest : all test s ≡ all test (drop i s)
-
-off : (r : Bool) → not r ≡ true → r ≡ false
-off true h = sym h
-off false h = refl
-
-on : (r : Bool) → not r ≡ false → r ≡ true
-on true h = refl
-on false h = sym h
 
 module _ (test : ℕ → Bool) (s : List ℕ) where
   pub all-start : All test s 0
@@ -36,10 +28,10 @@ module _ (test : ℕ → Bool) (s : List ℕ) where
     all-at h e = rw (add-one, drop-cons s i 0 h, e)
 
     pub all-stop : All test s i → i < length s → r ≡ test (getD s i 0) → not r ≡ true → false ≡ all test s
-    all-stop v h e f = rw (v .rest, all-at h e, off r f)
+    all-stop v h e f = rw (v .rest, all-at h e, not-true r f)
 
     pub all-next : All test s i → i < length s → r ≡ test (getD s i 0) → not r ≡ false → All test s (i + 1)
-    all-next v h e f = record { most = omega arith; rest = rw (v .rest, all-at h e, on r f) }
+    all-next v h e f = record { most = omega arith; rest = rw (v .rest, all-at h e, not-false r f) }
 
   pub all-end : (i : ℕ) → All test s i → length s ≤ i → true ≡ all test s
   unfolding all
@@ -95,10 +87,10 @@ module _ (test : List ℕ → Bool) (s : List ℕ) (a e : ℕ) (at : e ≡ a + u
 
   pub parts-next : (r : Bool) → e < length s → r ≡ test (take (e - a) (drop a s)) → not r ≡ false
       → all test (dotted (drop a s)) ≡ all test (dotted (drop (e + 1) s))
-  parts-next r h p q = rw (parts-at h, ← p, on r q)
+  parts-next r h p q = rw (parts-at h, ← p, not-false r q)
 
   pub parts-stop : (r : Bool) → e < length s → r ≡ test (take (e - a) (drop a s)) → not r ≡ true → all test (dotted (drop a s)) ≡ false
-  parts-stop r h p q = rw (parts-at h, ← p, off r q)
+  parts-stop r h p q = rw (parts-at h, ← p, not-true r q)
 
   pub parts-end : length s ≤ e → all test (dotted (drop a s)) ≡ test (take (length s - a) (drop a s))
   unfolding all

@@ -1,5 +1,5 @@
 -- Counting, in an array, how many runs each number is in.
-use Prim.Native.Nat.{ℕ, zero, suc, min, _+_, _-_, _*_, _≤_, _<_}
+use Prim.Native.Nat.{ℕ, min, _+_, _-_, _*_, _≤_, _<_}
 use mathlib.Core.Path.{_≡_, refl, ap, _∙_}
 use mathlib.Core.List.{List, []}
 use mathlib.Core.Bool.{Bool, true, false, _&&_}
@@ -17,6 +17,7 @@ use Rattle.csdl.specs.Paths.{segment13}
 use Rattle.path_kinds.specs.Kinds.{kindAt}
 use Rattle.csdl.specs.Search.{oneIf, sumFrom, countFrom, sumOf}
 use Rattle.rules_segments.specs.Cover.{inside, coverOf}
+use Rattle.csdl.proofs.Logic.{sum-suc, count-next}
 
 -- g itself is passed at g + 1, and no other number is.
 ltb-here : (g : ℕ) → ltb g (g + 1) ≡ true
@@ -70,19 +71,8 @@ pub counted-small : (out₀ out : List ℕ) (from g k n : ℕ) → Counted out�
 counted-small out₀ out from g k n c h = omega (arith, c k, one-if-le (leb from k && ltb k g))
 
 -- One more term at the end.
-sum-suc : (f : ℕ → ℕ) (i n : ℕ) → sumFrom f i (suc n) ≡ sumFrom f i n + f (i + n)
-unfolding sumFrom
-sum-suc f i zero = let e : i + 0 ≡ i = omega arith in omega (arith, ap f e)
-sum-suc f i (suc n) =
-    let e : i + 1 + n ≡ i + suc n = omega arith in
-    let s : sumFrom f (i + 1) (suc n) ≡ sumFrom f (i + 1) n + f (i + suc n) = rw e at (sum-suc f (i + 1) n) in
-    omega arith
-
 pub sum-next : (f : ℕ → ℕ) (i n : ℕ) → sumFrom f i (n + 1) ≡ sumFrom f i n + f (i + n)
 sum-next f i n = rw (add-one n) (sum-suc f i n)
-
-count-next : (test : ℕ → Bool) (r : ℕ) → countFrom test 0 (r + 1) ≡ countFrom test 0 r + oneIf (test r)
-count-next test r = let e : 0 + r ≡ r = omega arith in sum-next (λ k. oneIf (test k)) 0 r ∙ ap (λ (x : ℕ). countFrom test 0 r + oneIf (test x)) e
 
 -- The array counts, for each number, how many of the first r runs it is in.
 abbrev pub Tallied : (ℕ → ℕ → Bool) → List ℕ → List ℕ → ℕ → Type 0

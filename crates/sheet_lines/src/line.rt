@@ -1,4 +1,4 @@
-// The lines of a sheet. Each of these puts a line at `at` and answers the place after it.
+// The lines of a sheet. Each of these puts a line at the start of the buffer or at `at`, and answers the place after it.
 ghost use mathlib.Core.Path.{_≡_};
 ghost use Prim.Native.Nat.{_+_, _*_, _≤_};
 ghost use lib.ListN.{length, getD};

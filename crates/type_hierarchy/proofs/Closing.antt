@@ -8,7 +8,7 @@ use native.Mathlib.Omega.{arith}
 use lib.Dec.{ltb, eqb}
 use borrow.Author.Tests.{ltb-true, ltb-false, eqb-true, eqb-false}
 use Rattle.csdl.specs.Climb.{reaches}
-use Rattle.csdl.proofs.Logic.{or-cases, or-left, or-right, and-cases, and-both}
+use Rattle.csdl.proofs.Logic.{or-cases, or-left, or-right, and-cases, and-both, bool-iff}
 use Rattle.csdl.proofs.Reaching.{Reach, reaches-exact}
 use Rattle.csdl.proofs.Reaching.Reach.{in-one}
 use Rattle.type_hierarchy.proofs.Reaching.{direct, wider, after, by-way}
@@ -43,15 +43,10 @@ reached-more n m c before rows next few l p t = record { found = found; all = al
         (by-way before c a r)
 
 -- Two tests of which each passes where the other does.
-both-ways : (x y : Bool) → (x ≡ true → y ≡ true) → (y ≡ true → x ≡ true) → x ≡ y
-both-ways true y f g = sym (f refl)
-both-ways false true f g = g refl
-both-ways false false f g = refl
-
 pub reached-all : (n : ℕ) (before next : ℕ → ℕ → Bool) → Reached n n before next → (a b : ℕ) → a < n → b < n → next a b ≡ reaches before n a b
 reached-all n before next p a b h l =
     let x = reaches-exact before n a b l in
-    both-ways (next a b) (reaches before n a b) (λ q. x .1 (p .found a b h l q)) (λ q. p .all a b h l (x .0 q))
+    bool-iff (next a b) (reaches before n a b) (λ q. x .1 (p .found a b h l q)) (λ q. p .all a b h l (x .0 q))
 
 -- ---- one number more, row by row
 -- The rows below a went through c, those from a on did not yet.

@@ -1,4 +1,4 @@
-// The types of a model: kinds of type, bases and ancestors (also as sets), how near each is, types with keys, steps through properties.
+// The types of a model: kinds of type, bases and ancestors (also as sets), how near each is, the owners of keys, steps through properties.
 pub mod ancestors;
 pub mod bases;
 pub mod key_owners;

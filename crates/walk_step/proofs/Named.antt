@@ -1,5 +1,5 @@
 -- The search for a slot by its name, as a loop goes through a node's run of slots. Assumes nothing.
-use Prim.Native.Nat.{ℕ, suc, _+_, _-_, _*_, _≤_, _<_}
+use Prim.Native.Nat.{ℕ, _+_, _-_, _*_, _≤_, _<_}
 use mathlib.Core.Path.{_≡_, refl, _∙_}
 use mathlib.Core.List.{List, []}
 use mathlib.Core.Bool.{Bool, true, false}
@@ -13,14 +13,12 @@ use Rattle.csdl.specs.Instance.{instanceOf, nodeSlotsIn}
 use Rattle.csdl.specs.Walk.{slotNamed}
 use Rattle.packed.proofs.Laws.{field-past}
 use Rattle.walk_step.specs.Seen.{hasName}
+use Rattle.csdl.proofs.Loops.{one-more}
 
 -- The first j numbers of the run do not pass.
 pub record Seeking (test : ℕ → Bool) (first count j : ℕ) : Type 0 where
   pub most : j ≤ count
   pub rest : firstFrom test first count ≡ firstFrom test (first + j) (count - j)
-
-one-more : (n j : ℕ) → j < n → n - j ≡ suc (n - (j + 1))
-one-more n j h = omega arith
 
 module _ (test : ℕ → Bool) (first count : ℕ) where
   pub seek-start : Seeking test first count 0
