@@ -232,29 +232,37 @@ fn name_alike(i: usize) -> Bytes {
     text[i..i + 128].to_vec()
 }
 
-/// 64 types and 64 children, with the names that are alike longest.
-fn names_alike() -> Case {
+/// 64 types and 64 children with the first of these names.
+fn types_and_children(name: fn(usize) -> Bytes) -> Case {
     let mut m = line_of_types(ENTITY, 64);
     for i in 0..64 {
-        m.types[i].name = name_alike(i);
+        m.types[i].name = name(i);
         m.set("", i);
-        m.children[i].name = name_alike(i);
+        m.children[i].name = name(i);
         m.children[i].singleton = true;
     }
     model_case(&m.encode(&Layout::plain()))
 }
 
-/// 128 keys of one type, of two segments each.
-fn aliases_alike() -> Case {
+/// Keys of one type, of two segments each, with the first of these aliases.
+fn keys(count: usize, alias: fn(usize) -> Bytes) -> Case {
     let mut m = line_of_types(ENTITY, 1);
     let complex = m.add_type(COMPLEX, "K");
     m.structural(0, "C", complex as u32);
     m.structural(complex, "V", INT32);
-    for i in 0..128 {
+    for i in 0..count {
         m.key(0, &["C", "V"]);
-        m.keys[i].alias = name_alike(i);
+        m.keys[i].alias = alias(i);
     }
     model_case(&m.encode(&Layout::plain()))
+}
+
+fn names_alike() -> Case {
+    types_and_children(name_alike)
+}
+
+fn aliases_alike() -> Case {
+    keys(128, name_alike)
 }
 
 /// Name number i of 128, of 56 bytes each. Two blocks of eight bytes that leave
@@ -268,29 +276,12 @@ fn name_digest(i: usize) -> Bytes {
     (0..7).flat_map(block).copied().collect()
 }
 
-/// 64 types and 64 children, whose names have one digest.
 fn names_digest() -> Case {
-    let mut m = line_of_types(ENTITY, 64);
-    for i in 0..64 {
-        m.types[i].name = name_digest(i);
-        m.set("", i);
-        m.children[i].name = name_digest(i);
-        m.children[i].singleton = true;
-    }
-    model_case(&m.encode(&Layout::plain()))
+    types_and_children(name_digest)
 }
 
-/// 64 keys of one type, of two segments each, whose aliases have one digest.
 fn aliases_digest() -> Case {
-    let mut m = line_of_types(ENTITY, 1);
-    let complex = m.add_type(COMPLEX, "K");
-    m.structural(0, "C", complex as u32);
-    m.structural(complex, "V", INT32);
-    for i in 0..64 {
-        m.key(0, &["C", "V"]);
-        m.keys[i].alias = name_digest(i);
-    }
-    model_case(&m.encode(&Layout::plain()))
+    keys(64, name_digest)
 }
 
 /// A type that contains itself under 32 names of one digest and refers to
