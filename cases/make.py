@@ -51,9 +51,13 @@ INSTANCE = {
     "slot": [("property", 9), ("state", 2), ("first", 12), ("count", 12), ("spare", 5)],
     "item": [("reference", 8), ("handle", 24)],
 }
+MEMBERS = {
+    "member": [("type", 6), ("given", 1), ("name.start", 12), ("name.length", 8), ("value", 64), ("spare", 5)],
+}
 HEADER = {
     "model": ["version", "schemas", "types", "properties", "keys", "constraints", "children", "bindings", "segments", "names"],
     "instance": ["version", "nodes", "slots", "items"],
+    "members": ["version", "members", "names"],
 }
 NULL = (255, 0)
 
@@ -98,6 +102,14 @@ def plain(word):
 
 def number(word):
     return int(word, 0)
+
+
+def signed(word, width):
+    """A number with a sign as the two's complement of so many bits."""
+    n, half = number(word), 1 << width - 1
+    if not -half <= n < half:
+        raise Fault(f"{word} does not fit {width} bits")
+    return n % (2 * half)
 
 
 def spread(values):
@@ -152,12 +164,20 @@ def placed(word):
 # ---- images
 
 class Image:
-    """What a model and an instance have in common: raw changes, and bytes."""
+    """What the kinds of image have in common: records and names, raw changes, and bytes."""
 
     def __init__(self, kind, tables):
         self.kind, self.tables = kind, tables
         self.records = {t: [] for t in tables}
+        self.text = []           # (record, field, bytes) of every name
         self.raws, self.tail, self.cut, self.whole = [], b"", 0, None
+
+    def add(self, table, record):
+        self.records[table].append(record)
+        return record
+
+    def name(self, record, field, word):
+        self.text.append((record, field, plain(word)))
 
     def raw(self, w):
         """The lines that change fields and bytes after the image is laid out."""
@@ -173,9 +193,23 @@ class Image:
             return False
         return True
 
-    def encode(self, header, names=b""):
+    def lay_names(self):
+        """The name bytes. Each different name stands once, in order of first use in the image."""
+        order = {id(r): (t, i) for t, rs in enumerate(self.records.values()) for i, r in enumerate(rs)}
+        starts, names = {b"": 0}, b""
+        for r, f, text in sorted(self.text, key=lambda e: order[id(e[0])]):
+            if text not in starts:
+                starts[text] = len(names)
+                names += text
+            r[f + ".start"], r[f + ".length"] = starts[text], len(text)
+        return names
+
+    def encode(self):
         if self.whole is not None:
             return self.whole
+        names = self.lay_names()
+        # An instance's header ends before the number of name bytes: it has none.
+        header = dict(zip(HEADER[self.kind], [0x0402, *map(len, self.records.values()), len(names)]))
         for table, n, field, value in self.raws:
             if table == "header":
                 if field not in header:
@@ -206,7 +240,6 @@ class Model(Image):
     def __init__(self, lines):
         super().__init__("model", MODEL)
         self.types, self.properties, self.paths, self.loose = [], [], [], []
-        self.text = []           # (record, field, bytes) of every name but those of segments
         self.named = {}          # words as the text has them, for references
         # Types are named before they are told of, so they are read first.
         rest = []
@@ -230,13 +263,6 @@ class Model(Image):
 
     def unknown(self, w):
         raise Fault(f"unknown record {w[0]}")
-
-    def add(self, table, record):
-        self.records[table].append(record)
-        return record
-
-    def name(self, record, field, word):
-        self.text.append((record, field, plain(word)))
 
     def path(self, record, field, word):
         """A path a/b/(Type)/c, with @n behind it where its first segment is to be segment n."""
@@ -373,20 +399,6 @@ class Model(Image):
             else:
                 self.name(r, "name", s)
 
-    def encode(self):
-        """Each different name stands once among the name bytes, in order of first use in the image."""
-        order = {id(r): (list(MODEL).index(t), i) for t in MODEL for i, r in enumerate(self.records[t])}
-        starts, names = {b"": 0}, b""
-        for r, f, text in sorted(self.text, key=lambda e: order[id(e[0])]):
-            if text not in starts:
-                starts[text] = len(names)
-                names += text
-            if f == "alias" and not text:
-                continue
-            r[f + ".start"], r[f + ".length"] = starts[text], len(text)
-        header = dict(zip(HEADER["model"], [0x0402] + [len(self.records[t]) for t in MODEL] + [len(names)]))
-        return super().encode(header, names)
-
     def find(self, t, name):
         """The property that a name means at a type, to write an instance's slots by name."""
         seen = 0
@@ -417,7 +429,7 @@ class Instance(Image):
             elif not self.raw(w):
                 raise Fault(f"unknown part {w[0]}")
         for w in nodes:
-            self.records["node"].append({"type": model.type_number(w[2])})
+            self.add("node", {"type": model.type_number(w[2])})
         owned = {n: [w for w in slots if w[1].split(".")[0] == n] for n in self.numbers}
         if sum(map(len, owned.values())) != len(slots):
             raise Fault("a slot of no node")
@@ -445,7 +457,7 @@ class Instance(Image):
         if sorted(found) != list(range(len(found))):
             raise Fault("an item number is left out")
         for k in range(len(found)):
-            self.records["item"].append({"reference": found[k][0], "handle": found[k][1]})
+            self.add("item", {"reference": found[k][0], "handle": found[k][1]})
 
     def slot(self, w):
         """`slot n.Name VALUE` or `slot n.Name [VALUE ..]`: the record, its items and the wanted first item."""
@@ -483,9 +495,26 @@ class Instance(Image):
             return self.model.reference(kind), number(handle)
         return reference, number(word)
 
-    def encode(self):
-        counts = [len(self.records[t]) for t in INSTANCE]
-        return super().encode(dict(zip(HEADER["instance"], [0x0402] + counts)))
+
+class Members(Image):
+    def __init__(self, lines, model):
+        super().__init__("members", MEMBERS)
+        for line in lines:
+            w = words(line)
+            if w[0] == "member":
+                self.member(w, model)
+            elif not self.raw(w):
+                raise Fault(f"unknown part {w[0]}")
+
+    def member(self, w, model):
+        """`member TYPE.NAME`, or `member TYPE.NAME = VALUE` where the value is given."""
+        owner, _, name = w[1].rpartition(".")
+        r = self.add("member", {"type": model.type_number(owner)})
+        self.name(r, "name", name)
+        if w[2:]:
+            if w[2] != "=":
+                raise Fault("a member without =")
+            r["given"], r["value"] = 1, signed(w[3], 64)
 
 
 # ---- texts
@@ -496,13 +525,20 @@ class Section:
         self.rest, self.lines, self.told = head[2:], [], {}
 
 
-HEADS = ("model", "case", "instance", "check", "walk")
+HEADS = ("model", "case", "instance", "check", "walk", "members")
 TOLD = ("why", "buffer", "resolves", "leaves", "at", "results")
+
+# The sections that are run: the letter on the list, and the verdict where it is no refusal.
+RUN = {"case": ("m", r"accepted \d+"), "check": ("i", "conforms"), "walk": ("w", r"walked \d+ opened \d+"),
+       "members": ("e", "conforms")}
+
+# The second image of a run, which is checked or walked with its model: the kind, and the folder where it is stored.
+SECOND = {"check": (Instance, "instances/"), "walk": (Instance, "instances/"), "members": (Members, "members/")}
 
 
 def read_texts():
     sections = {}
-    for folder in ("models", "instances"):
+    for folder in ("models", "instances", "members"):
         at = os.path.join(HERE, folder)
         for file in sorted(os.listdir(at)) if os.path.isdir(at) else []:
             if not file.endswith(".txt"):
@@ -566,13 +602,15 @@ def tell(sections, section, line):
 class Run:
     """One line of the list and one of the sheet."""
 
-    def __init__(self, letter, name, verdict, model, instance="", buffer=0, shown=b"", walk=(0, 0, 0)):
-        self.letter, self.name, self.verdict, self.model, self.instance = letter, name, verdict, model, instance
-        self.buffer, self.shown, self.walk = buffer, shown, walk
+    def __init__(self, s, model, second="", buffer=0, shown=b"", walk=(0, 0, 0)):
+        (self.letter, accepted), self.name, self.verdict = RUN[s.kind], s.name, " ".join(s.rest)
+        if not re.fullmatch(accepted + r"|refused \d+ place \d+", self.verdict):
+            raise Fault(f"verdict {self.verdict}")
+        self.model, self.second, self.buffer, self.shown, self.walk = model, second, buffer, shown, walk
 
     def list_line(self):
         place, path, node = self.walk
-        return (f"{self.letter} {self.name:<40} {self.model:<50} {self.instance:<50} {self.buffer:05} {len(self.shown):05} "
+        return (f"{self.letter} {self.name:<40} {self.model:<50} {self.second:<50} {self.buffer:05} {len(self.shown):05} "
                 f"{place:010} {path:010} {node:010}\n")
 
     def sheet_line(self):
@@ -584,9 +622,6 @@ FILL = 0xEE     # what every byte of a lent buffer holds before the call
 
 
 def model_run(s, image, model):
-    verdict = " ".join(s.rest)
-    if not re.fullmatch(r"accepted \d+|refused \d+ place \d+", verdict):
-        raise Fault(f"{s.where}: verdict {verdict}")
     buffer, shown = number(s.told.get("buffer", "2048")), b""
     if "resolves" in s.told:
         w = words(s.told["resolves"])
@@ -598,13 +633,10 @@ def model_run(s, image, model):
         shown += bytes([FILL]) * (buffer - len(shown))
     elif "leaves" in s.told:
         shown = bytes([FILL]) * buffer
-    return Run("m", s.name, verdict, image, buffer=buffer, shown=shown)
+    return Run(s, image, buffer=buffer, shown=shown)
 
 
 def walk_run(s, model_name, instance_name, model, instance):
-    verdict = " ".join(s.rest)
-    if not re.fullmatch(r"walked \d+ opened \d+|refused \d+ place \d+", verdict):
-        raise Fault(f"{s.where}: verdict {verdict}")
     w = s.told["at"].split()
     if w[0] == "place":
         place, w = number(w[1]), w[2:]
@@ -619,54 +651,47 @@ def walk_run(s, model_name, instance_name, model, instance):
     buffer = number(s.told.get("buffer", str(room)))
     if "leaves" in s.told:
         shown += bytes([FILL]) * (buffer - len(shown))
-    return Run("w", s.name, verdict, model_name, instance_name, buffer, shown, (place, path, node))
+    return Run(s, model_name, instance_name, buffer, shown, (place, path, node))
 
 
 def make():
     """The stored images by file name, and the runs, models first."""
-    sections, files, models, instances = read_texts(), {}, {}, {}
+    sections, files, models, images = read_texts(), {}, {}, {}
     model_runs, other_runs = [], []
 
-    def model_of(name, where):
+    def model_of(name):
         if name not in sections or sections[name].kind not in ("model", "case"):
-            raise Fault(f"{where}: no model {name}")
+            raise Fault(f"no model {name}")
         if name not in models:
-            s = sections[name]
             try:
-                models[name] = Model(s.lines)
+                models[name] = Model(sections[name].lines)
                 files["models/" + name] = models[name].encode()
             except Fault as e:
-                raise Fault(f"{s.where}: {e}") from e
+                raise Fault(f"model {name}: {e}") from e
         return models[name]
 
-    def instance_of(s):
+    def images_of(s):
+        """The model and the second image of a section, each after its file; equal images are stored once."""
+        kind, folder = SECOND[s.kind]
         name = s.told.get("of") or (s.rest[1] if s.rest[:1] == ["of"] else None)
-        model, key = model_of(name, s.where), (name, tuple(s.lines))
-        if key not in instances:
-            try:
-                image = Instance(s.lines, model)
-                files["instances/" + s.name] = image.encode()
-            except Fault as e:
-                raise Fault(f"{s.where}: {e}") from e
-            instances[key] = (s.name, image)
-        return name, model, *instances[key]
+        model, key = model_of(name), (folder, name, tuple(s.lines))
+        if key not in images:
+            images[key] = (folder + s.name, kind(s.lines, model))
+            files[folder + s.name] = images[key][1].encode()
+        return "models/" + name, model, *images[key]
+
+    def run(s):
+        if s.kind == "case":
+            model_runs.append(model_run(s, "models/" + s.name, model_of(s.name)))
+        elif s.kind in SECOND:
+            name, model, stored, image = images_of(s)
+            other_runs.append(walk_run(s, name, stored, model, image) if s.kind == "walk" else Run(s, name, stored))
 
     for s in sections.values():
-        if s.kind == "case":
-            model = model_of(s.name, s.where)
-            model_runs.append(model_run(s, "models/" + s.name, model))
-        elif s.kind == "check":
-            verdict = " ".join(s.rest)
-            if not re.fullmatch(r"conforms|refused \d+ place \d+", verdict):
-                raise Fault(f"{s.where}: verdict {verdict}")
-            name, _, stored, _ = instance_of(s)
-            other_runs.append(Run("i", s.name, verdict, "models/" + name, "instances/" + stored))
-        elif s.kind == "walk":
-            name, model, stored, instance = instance_of(s)
-            try:
-                other_runs.append(walk_run(s, "models/" + name, "instances/" + stored, model, instance))
-            except Fault as e:
-                raise Fault(f"{s.where}: {e}") from e
+        try:
+            run(s)
+        except Fault as e:
+            raise Fault(f"{s.where}: {e}") from e
     return sections, files, model_runs + other_runs
 
 
@@ -749,8 +774,8 @@ def main(arguments):
         os.makedirs(os.path.dirname(path), exist_ok=True)
         with open(path, "wb") as f:
             f.write(data)
-    kinds = [sum(r.letter == k for r in runs) for k in "miw"]
-    print(f"make.py: {kinds[0]} models, {kinds[1]} instances, {kinds[2]} walks; {len(files)} images")
+    kinds = [sum(r.letter == k for r in runs) for k, _ in RUN.values()]
+    print(f"make.py: {kinds[0]} models, {kinds[1]} instances, {kinds[2]} walks, {kinds[3]} of members; {len(files)} images")
 
 
 if __name__ == "__main__":

@@ -1,4 +1,5 @@
-/* Calls the three exported functions on the worked example, with buffers of exactly the stated size, and prints their answers. */
+/* Calls the four exported functions on the worked example and on a model of two enumerations, with buffers of exactly the stated size, and
+ * prints their answers. */
 #include "tour_model.h"
 
 #include <stdio.h>
@@ -21,6 +22,18 @@ static const uint8_t visit[] = {
     64, 1, 32, 6, 0, 32, 1, 128, 0, 0, 0, 2, 32, 8, 0, 32, 1, 32, 10, 0, 32, 1, 160, 12, 0, 32, 2, 0, 0, 0, 0, 2,
     160, 14, 0, 32, 75, 0, 0, 7, 1, 0, 0, 1, 1, 0, 0, 2, 75, 0, 0, 1, 1, 0, 0, 2, 75, 0, 0, 2, 2, 0, 0, 3, 80, 0,
     0, 5,
+};
+
+/* A model of two enumerations, Tone of Byte and Step of Int32: 46 bytes. */
+static const uint8_t tones[] = {
+    4, 2, 0, 1, 0, 2, 0, 0, 0, 0, 0, 0, 0, 0, 0, 0, 0, 0, 0, 9, 0, 0, 16, 0, 0, 4, 0, 12, 0, 65, 0, 4, 0, 44, 1,
+    65, 0, 103, 84, 111, 110, 101, 83, 116, 101, 112,
+};
+
+/* Its members: Tone.Low is 0, Step.Up has no given value, Tone.High is 255. */
+static const uint8_t tone_members[] = {
+    4, 2, 0, 3, 0, 9, 2, 0, 0, 96, 0, 0, 0, 0, 0, 0, 0, 0, 4, 0, 96, 64, 0, 0, 0, 0, 0, 0, 0, 0, 2, 0, 160, 128, 0,
+    0, 0, 0, 0, 0, 31, 224, 76, 111, 119, 85, 112, 72, 105, 103, 104,
 };
 
 enum { BINDING = 14, SEGMENTS = 4, SLOTS = 9, ITEMS = 8 };
@@ -79,6 +92,19 @@ static void print_instance(const uint8_t *bytes, size_t length)
     free(model);
 }
 
+static void print_members(const uint8_t *bytes, size_t length)
+{
+    uint8_t *model = copy(tones, sizeof tones);
+    uint8_t *members = copy(bytes, length);
+    uint64_t answer = tour_check_members(model, sizeof tones, members, length);
+    if (TOUR_REFUSED(answer))
+        printf("members refused %u place %u\n", TOUR_RULE(answer), TOUR_PLACE(answer));
+    else
+        printf("members conform\n");
+    free(members);
+    free(model);
+}
+
 static void print_walk(uint32_t place, uint32_t path, uint32_t node, size_t room)
 {
     uint8_t *model = copy(tour, sizeof tour);
@@ -104,6 +130,14 @@ int main(void)
     cycle[26] |= 1;    /* the base of type 0 is type 1 */
     cycle[33] |= 0x80; /* and that of type 1 is type 0 */
 
+    uint8_t wide[sizeof tone_members];
+    memcpy(wide, tone_members, sizeof tone_members);
+    wide[40] = 32; /* the value of member 2 is 256 */
+    wide[41] = 0;
+    uint8_t spare[sizeof tone_members];
+    memcpy(spare, wide, sizeof wide);
+    spare[29] |= 1; /* and a spare bit of member 1 is set */
+
     print_model(tour, sizeof tour, 2 * SEGMENTS);
     print_model(tour, sizeof tour, 2 * SEGMENTS + 3);
     print_model(tour, sizeof tour, 2 * SEGMENTS - 1);
@@ -111,6 +145,10 @@ int main(void)
     print_model(cycle, sizeof cycle, 2 * SEGMENTS);
     print_instance(visit, sizeof visit);
     print_instance(visit, sizeof visit - 1);
+    print_members(tone_members, sizeof tone_members);
+    print_members(wide, sizeof wide);
+    print_members(spare, sizeof spare);
+    print_members(tone_members, sizeof tone_members - 1);
     print_walk(BINDING, 0, 0, room);
     print_walk(BINDING, 1, 0, room);
     print_walk(BINDING, 0, 1, room);
@@ -119,6 +157,7 @@ int main(void)
     /* Nothing lent at all. */
     printf("%llu\n", (unsigned long long)tour_check_model(NULL, 0, NULL, 0));
     printf("%llu\n", (unsigned long long)tour_check_instance(NULL, 0, NULL, 0));
+    printf("%llu\n", (unsigned long long)tour_check_members(NULL, 0, NULL, 0));
     printf("%llu\n", (unsigned long long)tour_walk(NULL, 0, NULL, 0, 0, 0, 0, NULL, 0));
     return 0;
 }

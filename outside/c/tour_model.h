@@ -5,7 +5,7 @@
  *
  * The result is one 64-bit number. Its upper 32 bits are 0 exactly when the call accepts:
  *
- *     refused    rule * 2^32 + place    the lowest broken rule (1 to 29) and the first record that breaks it;
+ *     refused    rule * 2^32 + place    the lowest broken rule (1 to 31) and the first record that breaks it;
  *                                       the place is 0 where no record is at fault
  *     accepted   below 2^32             the numbers that the call reports, as said at each function
  *
@@ -21,10 +21,12 @@
 
 #define TOUR_LARGEST_MODEL 13348    /* bytes of the largest model image that rule 1 lets pass */
 #define TOUR_LARGEST_INSTANCE 14344 /* bytes of the largest instance image that rule 20 lets pass */
+#define TOUR_LARGEST_MEMBERS 16390  /* bytes of the largest members image that rule 30 lets pass */
 
 #define TOUR_STACK_MODEL 32768    /* bytes of stack that tour_check_model needs at most */
 #define TOUR_STACK_INSTANCE 49152 /* tour_check_instance */
 #define TOUR_STACK_WALK 49152     /* tour_walk */
+#define TOUR_STACK_MEMBERS 32768  /* tour_check_members */
 
 /* The numbers of a result. */
 #define TOUR_REFUSED(result) ((result) >> 32 != 0)
@@ -41,6 +43,10 @@ uint64_t tour_check_model(const uint8_t *image, size_t image_length, uint8_t *re
 /* Checks an instance image against a model image: rules 1 and 3 to 19 of the model, then 20 to 26, whose places count in the instance
  * image. Accepted: 0. */
 uint64_t tour_check_instance(const uint8_t *model, size_t model_length, const uint8_t *instance, size_t instance_length);
+
+/* Checks a members image against a model image: rules 1 and 3 to 19 of the model, then 30 and 31, whose places count in the members
+ * image. Accepted: 0. */
+uint64_t tour_check_members(const uint8_t *model, size_t model_length, const uint8_t *members, size_t members_length);
 
 /* Walks a path of the record at a place of the model (path 0, or 1 for a principal or target path) from a node of the instance:
  * the refusals of the instance check, then 27 to 29. Accepted: results * 65536 + opened slots, and the results as items of 4 bytes

@@ -14,7 +14,7 @@ pub fn check(text: &[u8]) {
     let mut image = [0u8; IMAGE_SIZE];
     let m = load(line::model(text), &mut image);
     let mut instance = [0u8; INSTANCE_SIZE];
-    let n = load(line::instance(text), &mut instance);
+    let n = load(line::second(text), &mut instance);
     print_instance(instance_check::check_instance(&image[..m], &instance[..n]));
 }
 
@@ -22,7 +22,7 @@ pub fn walk(text: &[u8]) {
     let mut image = [0u8; IMAGE_SIZE];
     let m = load(line::model(text), &mut image);
     let mut instance = [0u8; INSTANCE_SIZE];
-    let n = load(line::instance(text), &mut instance);
+    let n = load(line::second(text), &mut instance);
     let mut buffer = [FILL; 16384];
     let answer = walk_lent(&image[..m], &instance[..n], text, &mut buffer);
     print_walk(answer);
@@ -43,9 +43,7 @@ fn walk_lent(image: &[u8], instance: &[u8], text: &[u8], buffer: &mut [u8]) -> W
 
 fn print_instance(answer: InstanceAnswer) {
     match answer {
-        InstanceAnswer::Conforms => {
-            io::write_all(1, b"conforms");
-        }
+        InstanceAnswer::Conforms => print::conforms(),
         InstanceAnswer::Refused { rule, place } => print::refused(rule, place),
     }
 }

@@ -21,8 +21,8 @@ pub fn model(text: &[u8]) -> &[u8] {
     column(text, 43, 50)
 }
 
-// The file of the instance's image.
-pub fn instance(text: &[u8]) -> &[u8] {
+// The file of the second image: the instance's, or that of the members.
+pub fn second(text: &[u8]) -> &[u8] {
     column(text, 94, 50)
 }
 

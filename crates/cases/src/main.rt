@@ -1,11 +1,12 @@
 // Runs the stored cases. Each line of the file `list` names a check or a walk and the files of its images; the program prints
 // the verdict of each, a line to a case, and the bytes of the lent buffer that the line asks for.
+mod enumerations;
 mod instances;
 mod line;
 mod models;
 mod print;
 
-// One case: `m`, the check of a model; `i`, that of an instance; `w`, a walk.
+// One case: `m`, the check of a model; `i`, that of an instance; `w`, a walk; `e`, the check of members of enumerations.
 fn answer(text: &[u8]) {
     io::write_all(1, line::name(text));
     io::write_all(1, b" ");
@@ -13,6 +14,7 @@ fn answer(text: &[u8]) {
         b'm' => models::check(text),
         b'i' => instances::check(text),
         b'w' => instances::walk(text),
+        b'e' => enumerations::check(text),
         _ => {
             io::write_all(1, b"unknown");
         }

@@ -17,6 +17,10 @@ pub fn bytes(word: &[u8], buffer: &[u8], count: u32) {
     hex(packed::part_of(buffer, 0, count));
 }
 
+pub fn conforms() {
+    io::write_all(1, b"conforms");
+}
+
 pub fn refused(rule: u16, place: u16) {
     numbered(b"refused ", rule);
     numbered(b" place ", place);

@@ -19,8 +19,11 @@ use Rattle.csdl.specs.Verdict.Stage.{whole, each}
 use Rattle.csdl.specs.Conforms.{instanceStages, instanceAnswer}
 use Rattle.csdl.specs.Walk.{walkAnswer}
 use Rattle.csdl.specs.Accepted.{number, BrokenAt, Broken, Lowest, checkStages, laterStages, conformStages, walkStages}
+use Rattle.csdl.specs.Later.{tableFrom}
+use Rattle.csdl.specs.Members.{membersIn, membersOf, imageStages, memberStages, membersAnswer}
 use Rattle.csdl.proofs.Logic.{and-cases, or-no}
 use Rattle.csdl.proofs.Verdicts.{ascends, broken-from, model-refuses, instance-refuses, walk-refuses}
+use Rattle.csdl.proofs.Members.{members-refuses}
 
 -- No stage's rule is over b.
 unfoldable upTo : ℕ → List Stage → Bool
@@ -84,6 +87,10 @@ instance-places-few image =
       field-lt image 48 16,
     )
 
+pub members-few : (image : List ℕ) → membersIn image .count < 4294967296
+unfolding membersIn membersOf tableFrom
+members-few image = omega (arith, part-most image 6 (12 * header image 1), field-lt image 16 16)
+
 -- A refusal's rule is one of those that the call asks, and never 0; its place is small.
 pub model-refusal : (image buffer : List ℕ) (rule place : ℕ) → modelAnswer image buffer ≡ refused rule place →
     (1 ≤ rule) × (rule ≤ 19) × (place < 4294967296)
@@ -134,6 +141,27 @@ walk-refusal model image place n v buffer rule at e =
     ))
     (h .1))
     (walk-refuses model image place n v buffer rule at .0 e)
+
+pub members-refusal : (model image : List ℕ) (rule place : ℕ) → membersAnswer model image ≡ refused rule place →
+    (1 ≤ rule) × (rule ≤ 31) × (place < 4294967296)
+unfolding ascends upTo memberStages
+members-refusal model image rule place e =
+    let whole = imageStages image in
+    let n = membersIn image .count in
+    let stages = memberStages (modelIn model) (membersIn image) in
+    ⊎-elim (λ low. let z = later-refusal model rule place low in (omega arith, omega arith, omega arith))
+    (λ h. ⊎-elim (λ low. let b = low .broken in (
+      omega (arith, broken-from 0 30 whole rule place refl b),
+      broken-to 0 31 whole rule place refl b,
+      omega (arith, broken-place 0 whole rule place b),
+    ))
+    (λ k. let b = k .1 .broken in (
+      omega (arith, broken-from n 30 stages rule place refl b),
+      broken-to n 31 stages rule place refl b,
+      omega (arith, broken-place n stages rule place b, members-few image),
+    ))
+    (h .1))
+    (members-refuses model image rule place .0 e)
 
 -- What rule 1 leaves of the segments, and rule 20 of the instance.
 pub segments-most : (image : List ℕ) → image1 image ≡ false → (modelIn image .segments ≡ header image 8) × (modelIn image .segments ≤ 1024)

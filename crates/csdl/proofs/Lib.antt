@@ -15,3 +15,6 @@ pub mod Segments
 pub mod Clauses
 pub mod Meaning
 pub mod Nulls
+pub mod Later
+pub mod Members
+pub mod MemberExamples

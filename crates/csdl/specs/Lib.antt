@@ -16,3 +16,5 @@ pub mod Conforms
 pub mod Walk
 pub mod Relations
 pub mod Accepted
+pub mod Later
+pub mod Members

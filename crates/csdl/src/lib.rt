@@ -1,4 +1,4 @@
-// Runs of records, the answers of the three checks, the records and the kinds of path, as the definitions in specs/ name them.
+// Runs of records, the answers of the calls, the records and the kinds of path, as the definitions in specs/ name them.
 
 // A path, and any other run of records of a table: the first, and how many; count 0 means absent.
 pub struct Run {
@@ -61,5 +61,11 @@ pub enum InstanceAnswer {
 // The answer of a walk.
 pub enum WalkAnswer {
     Walked { results: u16, opened: u16 },
+    Refused { rule: u16, place: u16 },
+}
+
+// The answer of the check of enumeration members.
+pub enum MembersAnswer {
+    Conforms,
     Refused { rule: u16, place: u16 },
 }

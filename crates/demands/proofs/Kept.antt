@@ -22,6 +22,7 @@ use Rattle.csdl.specs.Verdict.{stepCode, bytesOf, resolution, modelAnswer, mode
 use Rattle.csdl.specs.Verdict.Answer.{accepted, refused}
 use Rattle.csdl.specs.Conforms.{instanceAnswer}
 use Rattle.csdl.specs.Walk.{Item, walked, start, walkPath, walk28, walk29, walkResults, walkOpened, walkAnswer, walkBuffer, resultBytes, bytesOfItem}
+use Rattle.csdl.specs.Members.{membersAnswer}
 use Rattle.csdl.specs.declared.Chosen.the-variants.{PathOf}
 use Rattle.csdl.specs.Walk.Item.{null}
 use Rattle.csdl.specs.Walk.Origin.{at-slot}
@@ -29,7 +30,8 @@ use Rattle.csdl.specs.Accepted.{ModelPasses, WalkPasses}
 use Rattle.csdl.proofs.Logic.{run-in, in-run, tab-length, tab-at}
 use Rattle.csdl.proofs.Places.{of-segment}
 use Rattle.csdl.proofs.Verdicts.{model-accepts, model-refuses, instance-accepts, instance-refuses, walk-accepts, walk-refuses}
-use Rattle.csdl.proofs.Bounds.{model-refusal, instance-refusal, walk-refusal, segments-most, instance-most}
+use Rattle.csdl.proofs.Members.{members-accepts, members-refuses}
+use Rattle.csdl.proofs.Bounds.{model-refusal, instance-refusal, walk-refusal, members-refusal, segments-most, instance-most}
 use Rattle.csdl.proofs.Segments.{step-in-path, its-step, its-path, only-path}
 use Rattle.soundness.specs.Lists.{All}
 use Rattle.soundness.specs.Demand.{Held}
@@ -39,9 +41,9 @@ use Rattle.soundness.proofs.Lists.{all-getD}
 use Rattle.soundness.proofs.Counts.{item-length, bytes-length}
 use Rattle.soundness.proofs.Plain.{Plain, results-plain, null-bytes}
 use Rattle.soundness.proofs.Demands.{no-own-ancestor, every-path, each-is-held, results-are, opened-are, not-refused, one-result, results-at-most, premises-of-walk}
-use Rattle.demands.specs.Word.{word, upper, lower, resultsIn, openedIn, answerIn, modelIsIn, instanceIsIn, walkIsIn}
-use Rattle.demands.specs.Demands.{ModelPromise, InstancePromise, PathPromise, WalkPromise}
-use Rattle.demands.proofs.Words.{model-word, instance-word, few, walk-word}
+use Rattle.demands.specs.Word.{word, upper, lower, resultsIn, openedIn, answerIn, modelIsIn, instanceIsIn, membersAreIn, walkIsIn}
+use Rattle.demands.specs.Demands.{ModelPromise, InstancePromise, MembersPromise, PathPromise, WalkPromise}
+use Rattle.demands.proofs.Words.{model-word, instance-word, members-word, few, walk-word}
 use Rattle.demands.proofs.Blocks.{blocks-length, block-at}
 
 -- What a word says of an answer.
@@ -179,6 +181,30 @@ module _ (model image : List ℕ) where
         no-own-ancestor = λ h. no-own-ancestor model (instance-accepts model image .0 (conforms-in h) .model-passes);
       }
 
+-- The check of members.
+module _ (model image : List ℕ) where
+  abbrev we : ℕ
+  we = word (membersAnswer model image)
+
+  members-in : upper we ≡ 0 → membersAnswer model image ≡ accepted []
+  unfolding membersAreIn
+  members-in h = sym (members-word model image) ∙ none-in [] we h
+
+  members-fail : 1 ≤ upper we → membersAnswer model image ≡ refused (upper we) (lower we)
+  unfolding membersAreIn
+  members-fail h = sym (members-word model image) ∙ some-in [] we h
+
+  pub members-kept : MembersPromise model image we
+  unfolding word
+  members-kept =
+      record {
+        accepts = (λ h. members-accepts model image [] .0 (members-in h) .0, λ p. rw (members-accepts model image [] .1 (p, refl)));
+        says-zero = λ h. rw (members-in h);
+        refuses = λ h.
+            (members-refusal model image (upper we) (lower we) (members-fail h) .1, members-refuses model image (upper we) (lower we) .0 (members-fail h));
+        no-own-ancestor = λ h. no-own-ancestor model (members-accepts model image [] .0 (members-in h) .0 .model-passes);
+      }
+
 -- The walk.
 module _ (model image : List ℕ) (place n v : ℕ) (before : List ℕ) where
   abbrev ww : ℕ
@@ -310,6 +336,10 @@ model-owed image before e f = (e, (f, rw (e, f) (model-kept image before)))
 pub instance-owed : (model image : List ℕ) {x : ℕ} → x ≡ word (instanceAnswer model image) →
     (x ≡ word (instanceAnswer model image)) × InstancePromise model image x
 instance-owed model image e = (e, rw e (instance-kept model image))
+
+pub members-owed : (model image : List ℕ) {x : ℕ} → x ≡ word (membersAnswer model image) →
+    (x ≡ word (membersAnswer model image)) × MembersPromise model image x
+members-owed model image e = (e, rw e (members-kept model image))
 
 pub walk-owed : (model image : List ℕ) (place n v : ℕ) (before : List ℕ) {x : ℕ} {after : List ℕ} →
     x ≡ word (walkAnswer model image place n v before) → after ≡ walkBuffer model image place n v before →

@@ -10,10 +10,12 @@ use Rattle.csdl.specs.Verdict.{Answer, modelAnswer}
 use Rattle.csdl.specs.Verdict.Answer.{accepted, refused}
 use Rattle.csdl.specs.Conforms.{instanceAnswer}
 use Rattle.csdl.specs.Walk.{walkResults, walkOpened, walkAnswer}
+use Rattle.csdl.specs.Members.{membersAnswer}
 use Rattle.csdl.proofs.Verdicts.{model-accepts, instance-values, walk-accepts}
-use Rattle.csdl.proofs.Bounds.{model-refusal, instance-refusal, walk-refusal, segments-most, instance-most}
+use Rattle.csdl.proofs.Members.{members-accepts}
+use Rattle.csdl.proofs.Bounds.{model-refusal, instance-refusal, walk-refusal, members-refusal, segments-most, instance-most}
 use Rattle.soundness.proofs.Demands.{premises-of-walk, results-at-most, opened-at-most}
-use Rattle.demands.specs.Word.{valuesWord, word, upper, lower, resultsIn, openedIn, answerIn, modelIsIn, instanceIsIn, walkIsIn}
+use Rattle.demands.specs.Word.{valuesWord, word, upper, lower, resultsIn, openedIn, answerIn, modelIsIn, instanceIsIn, membersAreIn, walkIsIn}
 
 -- A small number has no upper half; a rule and a small place are the two halves.
 below : (values read : List ℕ) → valuesWord values < 4294967296 → read ≡ values → answerIn read (valuesWord values) ≡ accepted values
@@ -48,6 +50,15 @@ instance-word model image = go (instanceAnswer model image) refl
     go : (a : Answer) → instanceAnswer model image ≡ a → answerIn [] (word a) ≡ a
     go (accepted values) e = rw (instance-values model image values e)
     go (refused rule place) e = let b = instance-refusal model image rule place e in above [] rule place (b .0) (b .2)
+
+-- The check of members.
+pub members-word : (model image : List ℕ) → membersAreIn (word (membersAnswer model image)) ≡ membersAnswer model image
+unfolding word membersAreIn
+members-word model image = go (membersAnswer model image) refl
+  where
+    go : (a : Answer) → membersAnswer model image ≡ a → answerIn [] (word a) ≡ a
+    go (accepted values) e = rw (members-accepts model image values .0 e .1)
+    go (refused rule place) e = let b = members-refusal model image rule place e in above [] rule place (b .0) (b .2)
 
 -- The walk: at most 3073 results and 1024 slots opened.
 pub record Few (model image : List ℕ) (place n v : ℕ) : Type 0 where

@@ -1,16 +1,16 @@
--- THE DEMANDS, over the three calls as a caller sees them: the word w that a call returns, and the bytes before and after of the buffer that it was
+-- THE DEMANDS, over the calls as a caller sees them: the word w that a call returns, and the bytes before and after of the buffer that it was
 -- lent. The contracts of the exported functions (crates/portal/src/lib.rt) say these promises beside the equations that they follow from;
 -- proofs/Kept proves each clause from the theorem that the clause names: File.name stands in csdl/proofs, crate/File.name in the proofs of that crate.
 --
 -- A word is read by its halves: `upper w` is 0 for an acceptance, else the rule of a refusal, whose place is `lower w`; an accepted model is its
--- number of segments, an accepted instance 0, an accepted walk `resultsIn w` and `openedIn w`, 16 bits each.
+-- number of segments, an accepted instance 0, accepted members 0, an accepted walk `resultsIn w` and `openedIn w`, 16 bits each.
 --
 -- Demand 1, that every call ends on all inputs and touches only what it was lent, is the language's: a proved function ends, and reaches nothing
 -- but its slices. That a refusal leaves every byte is said here (1a). Demand 2 is (2a) to (2f), demand 3 is (3a) to (3i).
 use Prim.Native.Nat.{ℕ, _+_, _*_, _≤_, _<_}
 use mathlib.Core.Path.{_≡_}
 use mathlib.Core.List.{List, [], _∷_}
-use mathlib.Core.Bool.{true}
+use mathlib.Core.Bool.{true, false}
 use mathlib.Core.Logic.{_↔_, _⊎_}
 use lib.ListN.{length, drop, getD}
 use Rattle.packed.specs.Bytes.{part}
@@ -30,6 +30,8 @@ use Rattle.csdl.specs.Walk.Item.{null, value}
 use Rattle.csdl.specs.Walk.Origin.{at-slot}
 use Rattle.csdl.specs.Relations.{Ancestor}
 use Rattle.csdl.specs.Accepted.{ModelPasses, InstancePasses, WalkPasses, IsNull, Lowest, checkStages, laterStages, conformStages, walkStages}
+use Rattle.csdl.specs.Later.{laterImage1}
+use Rattle.csdl.specs.Members.{membersIn, memberSizes, imageStages, memberStages, MembersPass}
 use Rattle.soundness.specs.Lists.{All, Distinct}
 use Rattle.soundness.specs.Demand.{Held, heldPlace, heldNumber, LiesAt, NullHasOrigin}
 use Rattle.demands.specs.Word.{upper, lower, resultsIn, openedIn}
@@ -87,6 +89,21 @@ module _ (model : List ℕ) where
       -- instance's. Verdicts.instance-refuses, Bounds.instance-refusal
       pub refuses : 1 ≤ upper w → (upper w ≤ 26)
           × (Lowest (places m) (laterStages model) (upper w) (lower w) ⊎ (ModelPasses model × Lowest (instancePlaces i) (conformStages model image) (upper w) (lower w)))
+      -- (3a) No type of the model is its own ancestor. soundness/Demands.no-own-ancestor
+      pub no-own-ancestor : upper w ≡ 0 → (t : ℕ) → t < m .types → Ancestor m t t → ⊥
+
+    -- tour_check_members, where the image holds the members of the model's enumerations.
+    pub record MembersPromise (w : ℕ) : Type 0 where
+      -- (2a) It accepts exactly where no rule 1 or 3 to 19 is broken at any place of the model, the image keeps rule 30 as a whole and none of 30 and 31 is
+      -- broken at any member; the word is then 0. Members.members-accepts, demands/Words.members-word
+      pub accepts : (upper w ≡ 0) ↔ MembersPass model image
+      pub says-zero : upper w ≡ 0 → w ≡ 0
+      -- (2c) A refusal is the lowest broken rule, one of 1 to 31, and the lowest place that breaks it: in the model's image up to 19; else 30 of the whole
+      -- image, at place 0; else the member's number. Members.members-refuses, Bounds.members-refusal
+      pub refuses : 1 ≤ upper w → (upper w ≤ 31) × (Lowest (places m) (laterStages model) (upper w) (lower w)
+          ⊎ (ModelPasses model × (Lowest 0 (imageStages image) (upper w) (lower w)
+          ⊎ ((laterImage1 memberSizes image ≡ false)
+          × Lowest (membersIn image .count) (memberStages m (membersIn image)) (upper w) (lower w)))))
       -- (3a) No type of the model is its own ancestor. soundness/Demands.no-own-ancestor
       pub no-own-ancestor : upper w ≡ 0 → (t : ℕ) → t < m .types → Ancestor m t t → ⊥
 

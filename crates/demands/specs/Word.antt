@@ -40,5 +40,8 @@ modelIsIn w = answerIn (lower w ∷ []) w
 unfoldable pub instanceIsIn : ℕ → Answer
 instanceIsIn w = answerIn [] w
 
+unfoldable pub membersAreIn : ℕ → Answer
+membersAreIn w = answerIn [] w
+
 unfoldable pub walkIsIn : ℕ → Answer
 walkIsIn w = answerIn (resultsIn w ∷ openedIn w ∷ []) w

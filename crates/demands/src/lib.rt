@@ -1,10 +1,12 @@
-// An answer as the one 64-bit number that a caller in C gets: specs/Word says which. What the three calls owe to a caller stands in
+// An answer as the one 64-bit number that a caller in C gets: specs/Word says which. What the calls owe to a caller stands in
 // specs/Demands, and proofs/ prove it from the equations of their contracts.
 ghost use mathlib.Core.Path.{_≡_};
 ghost use Prim.Native.Nat.{_+_, _*_};
+ghost use Rattle.csdl.specs.Members.{membersMeans};
 ghost use Rattle.csdl.specs.Verdict.{modelMeans, instanceMeans, walkMeans};
 ghost use Rattle.demands.specs.Word.{word};
 use csdl::InstanceAnswer;
+use csdl::MembersAnswer;
 use csdl::ModelAnswer;
 use csdl::WalkAnswer;
 
@@ -39,5 +41,14 @@ pub fn walk_word(answer: WalkAnswer) -> u64
     match answer {
         WalkAnswer::Walked { results, opened } => (results as u64) * 65536 + (opened as u64),
         WalkAnswer::Refused { rule, place } => refusal(rule, place),
+    }
+}
+
+pub fn members_word(answer: MembersAnswer) -> u64
+    ensures { λ r. ⌜ r ≡ word (membersMeans answer) ⌝ }
+{
+    match answer {
+        MembersAnswer::Conforms => 0,
+        MembersAnswer::Refused { rule, place } => refusal(rule, place),
     }
 }

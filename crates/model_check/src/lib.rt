@@ -9,6 +9,7 @@ ghost use Rattle.csdl.specs.Verdict.Answer.{accepted};
 ghost use Rattle.csdl.specs.declared.ModelAnswer.the-variants.{Accepted};
 ghost use Rattle.path_resolution.specs.Coded.{Coded};
 ghost use Rattle.model_image.specs.Laid.{Laid};
+ghost use Rattle.model_image.specs.Sized.{Sized};
 ghost use Rattle.model_rules.specs.Stages.{Clear, Judged};
 ghost use Rattle.rules_segments.specs.Indexes.{AncestorsIn, IndexIn};
 use csdl::ModelAnswer;
@@ -55,11 +56,12 @@ fn first_among(
 }
 // Rules 3 to 19. The index of the names and the ancestors of all types are made once rules 3 to 10 are unbroken. Where all rules are, the codes of the
 // segments are kept.
-fn first_broken(image: &[u8], at: Layout, codes: &mut [u32]) -> ModelAnswer
-    requires { ⌜ Laid (now image) at × (length (now codes) ≡ 1024) ⌝ }
+fn first_broken(image: &[u8], codes: &mut [u32]) -> ModelAnswer
+    requires { ⌜ Sized (now image) × (length (now codes) ≡ 1024) ⌝ }
     ensures { λ r. ⌜ verdicts.modelMeans r ≡ verdicts.modelVerdict (modelIn (now (image .entry))) (accepted ((modelIn (now (image .entry))) .segments ∷ [])) ⌝ }
     ensures { λ r. ⌜ ((s : ℕ) → r ≡ Accepted s → Coded (modelIn (now (image .entry))) (now (codes .exit))) ⌝ }
 {
+    let at = layout_of(image);
     let no_index = [0u16; 1];
     let no_ancestors = [0u64; 1];
     let early = first_among(image, at, &no_index, codes, &no_ancestors, 3, 11);
@@ -80,8 +82,7 @@ pub fn check_rules(image: &[u8]) -> ModelAnswer
     }
     // any number serves, since rule 14 sets every code; an array of zeros would be cleared byte by byte
     let mut codes = [1u32; 1024];
-    let at = layout_of(image);
-    first_broken(image, at, &mut codes)
+    first_broken(image, &mut codes)
 }
 
 // The check of a model. Where it accepts, the buffer gets what the segments resolve to.
@@ -98,8 +99,7 @@ pub fn check_model(image: &[u8], resolution: &mut [u8]) -> ModelAnswer
     }
     // any number serves, since rule 14 sets every code; an array of zeros would be cleared byte by byte
     let mut codes = [1u32; 1024];
-    let at = layout_of(image);
-    let answer = first_broken(image, at, &mut codes);
+    let answer = first_broken(image, &mut codes);
     match answer {
         ModelAnswer::Accepted { segments: _ } => {
             write_resolution(&codes, n, resolution);

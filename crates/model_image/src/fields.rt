@@ -14,7 +14,7 @@ pub struct Name {
 }
 
 // The name field at a bit offset, start and length read at once.
-pub(crate) fn name_in(table: &[u8], at: u32) -> Name
+pub fn name_in(table: &[u8], at: u32) -> Name
     ensures { λ r. ⌜ (r .start ≡ fieldOf (now (table .entry)) at 12) × (r .size ≡ fieldOf (now (table .entry)) (at + 12) 8) × (r .start < 4096) × (r .size < 256) ⌝ }
 {
     let both = two_fields(table, at, 12, 8);

@@ -22,7 +22,7 @@ step x y r e P less equal = go (ltb x y) (ltb y x) refl refl e
 less-head : (x y : ℕ) (r : Bool) → x < y → cond (ltb x y) true (cond (ltb y x) false r) ≡ true
 less-head x y r h = rw (lt-ltb x y h)
 
-equal-head : (x y : ℕ) (r : Bool) → x ≡ y → cond (ltb x y) true (cond (ltb y x) false r) ≡ r
+pub equal-head : (x y : ℕ) (r : Bool) → x ≡ y → cond (ltb x y) true (cond (ltb y x) false r) ≡ r
 equal-head x y r h = rw (le-ltb x y (omega arith), le-ltb y x (omega arith))
 
 pub before-trans : (a b c : List ℕ) → before a b ≡ true → before b c ≡ true → before a c ≡ true
@@ -75,7 +75,7 @@ before-neither (x ∷ a) (y ∷ b) h k =
         go false false u v = let m = ltb-false x y u in let n = ltb-false y x v in omega arith
 
 -- ---- the first byte in which they differ, as the code finds it
-other-head : (x y : ℕ) (r : Bool) → eqb x y ≡ false → cond (ltb x y) true (cond (ltb y x) false r) ≡ ltb x y
+pub other-head : (x y : ℕ) (r : Bool) → eqb x y ≡ false → cond (ltb x y) true (cond (ltb y x) false r) ≡ ltb x y
 other-head x y r e = go (ltb x y) (ltb y x) refl refl
   where
     go : (c d : Bool) → ltb x y ≡ c → ltb y x ≡ d → cond c true (cond d false r) ≡ c

@@ -18,6 +18,7 @@ use Rattle.csdl.proofs.Logic.{any-found, any-of, not-so, sum-same, below-or-not
 use Rattle.name_classes.specs.Classes.{isFirst, Sorted, Stands, firstAt, Inserted, Ranked}
 use Rattle.name_classes.proofs.Before.{before-trans, before-neither, apart}
 use Rattle.name_classes.proofs.Counting.{sum-insert}
+use Rattle.name_classes.proofs.Sorting.{entry-in, sorted-more}
 
 -- ---- the property at a place, as the code asks for it
 module _ (name : ℕ → List ℕ) (order : List ℕ) (firsts at : ℕ) (x : List ℕ) where
@@ -134,34 +135,19 @@ module _ (name : ℕ → List ℕ) where
       unnamed : (q : ℕ) → q < p → name q ≡ name p → ⊥
       unnamed q l y = let w = f .stands q l in fresh (w .0) (w .1) (w .3 ∙ y)
 
-      moved : (j : ℕ) → at < j → j < firsts + 1 → getD next j 0 ≡ getD index (j - 1) 0
-      moved j l m = let g : suc (j - 1) ≡ j = omega arith in rw g at (n .back (j - 1) (omega arith) (omega arith))
-
       last : List ℕ
       last = set next (512 + p) (p + 1)
 
+      kept : (j : ℕ) → j < firsts + 1 → getD last j 0 ≡ getD next j 0
+      unfolding last
+      kept j m = low next (p + 1) (n .size ∙ f .size) j (omega (arith, m, f .most))
+
       -- An entry is an old one in front, the new one, or an old one behind.
       entry : {A : Type 0} (j : ℕ) → j < firsts + 1 → (j < at → getD last j 0 ≡ getD index j 0 → A) → (j ≡ at → getD last j 0 ≡ p → A) → (at < j → getD last j 0 ≡ getD index (j - 1) 0 → A) → A
-      unfolding last
-      entry j m a b c =
-          let k = low next (p + 1) (n .size ∙ f .size) j (omega (arith, m, f .most)) in
-          below-or-not j at (λ l. a l (k ∙ n .front j l)) (λ l. equal-or-not j at (λ y. b y (k ∙ rw y (n .here))) (λ y. let g : at < j = omega (arith, l, y) in c g (k ∙ moved j g m)))
+      entry j m a b c = let k = kept j m in entry-in index firsts at p next n j m (λ l u. a l (k ∙ u)) (λ l u. b l (k ∙ u)) (λ l u. c l (k ∙ u))
 
       ordered : Sorted name last (firsts + 1)
-      ordered i j l m =
-          entry j m
-          (λ x u. entry i (omega arith)
-          (λ y v. rw (u, v) (f .sorted i j l (omega (arith, x, s .most))))
-          (λ y v. absurd (omega arith))
-          (λ y v. absurd (omega arith)))
-          (λ x u. entry i (omega arith)
-          (λ y v. rw (u, v) (s .front i y))
-          (λ y v. absurd (omega arith))
-          (λ y v. absurd (omega arith)))
-          (λ x u. entry i (omega arith)
-          (λ y v. rw (u, v) (f .sorted i (j - 1) (omega arith) (omega arith)))
-          (λ y v. rw (u, v) (behind (j - 1) (omega arith) (omega arith)))
-          (λ y v. rw (u, v) (f .sorted (i - 1) (j - 1) (omega arith) (omega arith))))
+      ordered i j l m = rw (kept i (omega arith), kept j m) (sorted-more index firsts at p next n name (f .sorted) (s .most) (s .front) behind i j l m)
 
       in-front : (i : ℕ) → i < at → getD last i 0 ≡ getD index i 0
       unfolding last

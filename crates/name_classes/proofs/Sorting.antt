@@ -6,9 +6,10 @@ use mathlib.Core.Bool.{Bool, true, false, false≢true}
 use native.Mathlib.Omega.{arith}
 use lib.ListN.{length, getD, set, length-set}
 use lib.Seq.{getD-set-same, getD-set-other}
-use Rattle.csdl.proofs.Logic.{equal-or-not}
+use borrow.Author.Tests.{eq-eqb, ne-eqb, lt-ltb, le-ltb, le-leb, lt-leb}
+use Rattle.csdl.proofs.Logic.{equal-or-not, below-or-not}
 use Rattle.name_classes.specs.Order.{before}
-use Rattle.name_classes.specs.Classes.{Sorted, Stands, Inserted}
+use Rattle.name_classes.specs.Classes.{Sorted, Stands, Inserted, entryAfter}
 use Rattle.name_classes.proofs.Before.{before-trans}
 
 -- ---- halving: what is known of the entries below `low` and from `high` on
@@ -88,3 +89,42 @@ module _ (order : List ℕ) (firsts at : ℕ) where
       back = λ i l m. getD-set-other next at (suc i) p 0 (λ y. omega (arith, y, l)) ∙ w .back i (omega (arith, l, h)) m;
       rest = λ i l. getD-set-other next at i p 0 (λ y. omega (arith, y, l, w .low, w .high)) ∙ w .rest i l;
     }
+
+-- ---- an order that has one more
+module _ (order : List ℕ) (firsts at p : ℕ) (next : List ℕ) (n : Inserted order firsts at p next) where
+  -- An entry is an old one in front, the new one, or an old one behind.
+  pub entry-in : {A : Type 0} (j : ℕ) → j < firsts + 1 → (j < at → getD next j 0 ≡ getD order j 0 → A) → (j ≡ at → getD next j 0 ≡ p → A)
+      → (at < j → getD next j 0 ≡ getD order (j - 1) 0 → A) → A
+  entry-in j m a b c =
+      below-or-not j at (λ l. a l (n .front j l))
+      (λ l. equal-or-not j at (λ z. b z (rw z (n .here)))
+      (λ d. let g : at < j = omega (arith, l, d) in let h : suc (j - 1) ≡ j = omega arith in c g (rw h at (n .back (j - 1) (omega arith) (omega arith)))))
+
+  -- It stays in order where the old ones in front come before the new one, and it before those behind.
+  pub sorted-more : (name : ℕ → List ℕ) → Sorted name order firsts → at ≤ firsts → ((i : ℕ) → i < at → before (name (getD order i 0)) (name p) ≡ true)
+      → ((i : ℕ) → at ≤ i → i < firsts → before (name p) (name (getD order i 0)) ≡ true) → Sorted name next (firsts + 1)
+  sorted-more name sorted most front behind i j l m =
+      entry-in j m
+      (λ x u. entry-in i (omega arith)
+      (λ y v. rw (u, v) (sorted i j l (omega arith)))
+      (λ y v. absurd (omega arith))
+      (λ y v. absurd (omega arith)))
+      (λ x u. entry-in i (omega arith)
+      (λ y v. rw (u, v) (front i y))
+      (λ y v. absurd (omega arith))
+      (λ y v. absurd (omega arith)))
+      (λ x u. entry-in i (omega arith)
+      (λ y v. rw (u, v) (sorted i (j - 1) (omega arith) (omega arith)))
+      (λ y v. rw (u, v) (behind (j - 1) (omega arith) (omega arith)))
+      (λ y v. rw (u, v) (sorted (i - 1) (j - 1) (omega arith) (omega arith))))
+
+  -- Each entry, by its number.
+  pub entry-is : (i : ℕ) → getD next i 0 ≡ entryAfter order firsts at p i
+  entry-is i =
+      equal-or-not i at
+      (λ z. rw (eq-eqb i at z, z) (n .here))
+      (λ d. rw (ne-eqb i at d) (below-or-not i at
+      (λ l. rw (le-ltb at i (omega arith)) (n .front i l))
+      (λ g. let l : at < i = omega (arith, d) in rw (lt-ltb at i l) (below-or-not firsts i
+      (λ h. rw (lt-leb i firsts h) (n .rest i h))
+      (λ h. let s : suc (i - 1) ≡ i = omega arith in rw (le-leb i firsts h) (rw s at (n .back (i - 1) (omega arith) (omega arith))))))))

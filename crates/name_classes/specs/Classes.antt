@@ -1,9 +1,9 @@
 -- Properties by name: those that have the same name are of one class, which is known by the number of its first property.
-use Prim.Native.Nat.{ℕ, suc, _+_, _≤_, _<_}
+use Prim.Native.Nat.{ℕ, suc, _+_, _-_, _≤_, _<_}
 use mathlib.Core.Path.{_≡_}
 use mathlib.Core.List.{List}
 use mathlib.Core.Bool.{Bool, true, false, cond, not, _&&_}
-use lib.Dec.{ltb}
+use lib.Dec.{eqb, ltb, leb}
 use lib.ListN.{length, getD}
 use Rattle.packed.specs.Bytes.{part, same}
 use Rattle.csdl.specs.Search.{anyFrom, countFrom}
@@ -46,6 +46,10 @@ pub record Inserted (order : List ℕ) (firsts at p : ℕ) (next : List ℕ) : T
   pub here : getD next at 0 ≡ p
   pub back : (i : ℕ) → at ≤ i → i < firsts → getD next (suc i) 0 ≡ getD order i 0
   pub rest : (i : ℕ) → firsts < i → getD next i 0 ≡ getD order i 0
+
+-- What entry i then is.
+abbrev pub entryAfter : List ℕ → ℕ → ℕ → ℕ → ℕ → ℕ
+entryAfter order firsts at p i = cond (eqb i at) p (cond (ltb at i && leb i firsts) (getD order (i - 1) 0) (getD order i 0))
 
 -- The first n properties by name. Entry 512 + q has the number of the first property that has the name of property q, plus 1. The entries from 0 on have
 -- these first properties in the order of their names, each once, so that a test counts as many there; how many there are stands in entry 1536.

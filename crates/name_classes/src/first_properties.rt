@@ -8,7 +8,7 @@ ghost use Rattle.packed.specs.Bytes.{same};
 ghost use Rattle.csdl.specs.Search.{firstFrom};
 ghost use Rattle.csdl.specs.Tables.{propertyCount};
 ghost use Rattle.name_classes.specs.Order.{before};
-ghost use Rattle.name_classes.specs.Classes.{nameOf, nameCount, nameRank, Sorted, Stands, firstAt, Inserted, Ranked};
+ghost use Rattle.name_classes.specs.Classes.{nameOf, nameCount, nameRank, Sorted, Stands, firstAt, Inserted, entryAfter, Ranked};
 ghost use Rattle.model_image.specs.Limits.{FewProperties};
 use crate::order::comes_before;
 use model_image::properties::property_count;
@@ -49,9 +49,10 @@ fn position(properties: &[u8], names: &[u8], order: &[u16], firsts: u16, name: &
 }
 
 // Puts p at a place of the order, and what stood there and behind it one place on.
-fn insert(order: &mut [u16], firsts: u16, at: u16, p: u16)
+pub fn insert(order: &mut [u16], firsts: u16, at: u16, p: u16)
     requires { ⌜ (at ≤ firsts) × (firsts < length (now order)) ⌝ }
     ensures { λ _. ⌜ Inserted (now (order .entry)) firsts at p (now (order .exit)) ⌝ }
+    ensures { λ _. ⌜ ((i : ℕ) → getD (now (order .exit)) i 0 ≡ entryAfter (now (order .entry)) firsts at p i) ⌝ }
 {
     let mut k = firsts as usize;
     while k > at as usize {

@@ -1,3 +1,3 @@
 // The properties by name: an order of byte strings, and for each property the first that has its name.
 pub mod first_properties;
-mod order;
+pub mod order;

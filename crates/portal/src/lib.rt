@@ -1,18 +1,21 @@
 // The functions that the exam portal, written in C, calls. A slice is a pointer and then a length; buffers may not overlap.
 // The result is one 64-bit number: a refusal is rule * 2^32 + place, and the rule is never 0; an accepted model is its number of
-// segments, an accepted instance is 0, and a walk is results * 65536 + opened slots. outside/c/tour_model.h says the same for C.
+// segments, an accepted instance and accepted members are 0, and a walk is results * 65536 + opened slots. outside/c/tour_model.h says the same for C.
 // Each contract has the equations of the word and of the buffer, and the promise that follows from them, clause by clause: crates/demands/specs/Demands.
 ghost use mathlib.Core.Path.{_≡_};
 ghost use Prim.Native.Nat.{_≤_};
 ghost use Rattle.csdl.specs.Conforms.{instanceAnswer};
 ghost use Rattle.csdl.specs.Instance.{instanceIn};
+ghost use Rattle.csdl.specs.Members.{membersAnswer};
 ghost use Rattle.csdl.specs.Verdict.{modelAnswer, modelBuffer};
 ghost use Rattle.csdl.specs.Walk.{walkAnswer, walkBuffer};
 ghost use Rattle.demands.specs.Word.{word, upper, openedIn};
-ghost use Rattle.demands.specs.Demands.{ModelPromise, InstancePromise, WalkPromise};
+ghost use Rattle.demands.specs.Demands.{ModelPromise, InstancePromise, MembersPromise, WalkPromise};
 use demands::instance_word;
+use demands::members_word;
 use demands::model_word;
 use demands::walk_word;
+use enumeration_members::check_members;
 use instance_check::check_instance;
 use model_check::check_model;
 use walk::walk;
@@ -34,6 +37,15 @@ pub extern "C" fn tour_check_instance(model: &[u8], instance: &[u8]) -> u64
     ensures { λ r. ⌜ InstancePromise (now (model .entry)) (now (instance .entry)) r ⌝ }
 {
     instance_word(check_instance(model, instance))
+}
+
+// Checks the members of a model's enumerations.
+#[no_mangle]
+pub extern "C" fn tour_check_members(model: &[u8], members: &[u8]) -> u64
+    ensures { λ r. ⌜ r ≡ word (membersAnswer (now (model .entry)) (now (members .entry))) ⌝ }
+    ensures { λ r. ⌜ MembersPromise (now (model .entry)) (now (members .entry)) r ⌝ }
+{
+    members_word(check_members(model, members))
 }
 
 // Walks a path of the record at a place from a node; the results are written into the buffer as items.

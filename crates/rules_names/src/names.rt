@@ -141,7 +141,7 @@ pub fn identifier_limits(names: &[u8], limits: &mut [u16; 4096])
 }
 
 // 5a: a name is no simple identifier.
-fn name_5(names: &[u8], limits: &[u16], n: Name) -> bool
+pub fn name_5(names: &[u8], limits: &[u16], n: Name) -> bool
     requires { ⌜ (n .start < 4096) × Limits (now names) (now limits) ⌝ }
     ensures { λ r. ⌜ r ≡ rules.name5a (modelOf [] [] [] [] [] [] [] [] (now (names .entry))) (record { start = n .start; size = n .size }) ⌝ }
 {

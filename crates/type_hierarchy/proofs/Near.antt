@@ -181,7 +181,7 @@ or-cond : (b : Bool) (i x y : ℕ) → cond b (suc i) (orElse x y) ≡ orElse (c
 or-cond true i x y = refl
 or-cond false i x y = refl
 
-first-more : (test : ℕ → Bool) (i n : ℕ) → firstFrom test i (suc n) ≡ orElse (firstFrom test i n) (cond (test (i + n)) (suc (i + n)) 0)
+pub first-more : (test : ℕ → Bool) (i n : ℕ) → firstFrom test i (suc n) ≡ orElse (firstFrom test i n) (cond (test (i + n)) (suc (i + n)) 0)
 unfolding firstFrom
 first-more test i zero = rw (add-zero i)
 first-more test i (suc n) =

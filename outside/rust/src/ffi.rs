@@ -18,6 +18,13 @@ extern "C" {
         instance_len: usize,
     ) -> u64;
 
+    fn tour_check_members(
+        model: *const u8,
+        model_len: usize,
+        members: *const u8,
+        members_len: usize,
+    ) -> u64;
+
     fn tour_walk(
         model: *const u8,
         model_len: usize,
@@ -54,6 +61,10 @@ pub fn check_instance(model: &[u8], instance: &[u8]) -> u64 {
     }
 }
 
+pub fn check_members(model: &[u8], members: &[u8]) -> u64 {
+    unsafe { tour_check_members(model.as_ptr(), model.len(), members.as_ptr(), members.len()) }
+}
+
 pub fn walk(
     model: &[u8],
     instance: &[u8],
@@ -77,42 +88,44 @@ pub fn walk(
     }
 }
 
-/// The three calls with null pointers for slices of no bytes.
-pub fn nothing_lent() -> [u64; 3] {
+/// The four calls with null pointers for slices of no bytes.
+pub fn nothing_lent() -> [u64; 4] {
     use std::ptr::{null, null_mut};
     // A pointer may be null where its length is 0.
     unsafe {
         [
             tour_check_model(null(), 0, null_mut(), 0),
             tour_check_instance(null(), 0, null(), 0),
+            tour_check_members(null(), 0, null(), 0),
             tour_walk(null(), 0, null(), 0, 0, 0, 0, null_mut(), 0),
         ]
     }
 }
 
 /// The call of a case on images and a buffer in place of its own.
-pub fn call(case: &Case, (model, instance): (&[u8], &[u8]), buffer: &mut [u8]) -> u64 {
+pub fn call(case: &Case, (model, other): (&[u8], &[u8]), buffer: &mut [u8]) -> u64 {
     match *case {
         Case::Model { .. } => check_model(model, buffer),
-        Case::Instance { .. } => check_instance(model, instance),
+        Case::Instance { .. } => check_instance(model, other),
+        Case::Members { .. } => check_members(model, other),
         Case::Walk {
             place, path, node, ..
-        } => walk(model, instance, place, path, node, buffer),
+        } => walk(model, other, place, path, node, buffer),
     }
 }
 
 /// The images of a case, which can only be read, between unreadable pages.
 pub struct Images {
     model: Fenced,
-    instance: Fenced,
+    other: Fenced,
 }
 
 impl Images {
     pub fn of(case: &Case, flush: Flush) -> Images {
-        let (model, instance) = case.images();
+        let (model, other) = case.images();
         Images {
             model: Fenced::image(model, flush),
-            instance: Fenced::image(instance, flush),
+            other: Fenced::image(other, flush),
         }
     }
 
@@ -121,7 +134,7 @@ impl Images {
     /// the pages, the process ends by a signal.
     pub fn call(&self, case: &Case, buffer: &[u8], flush: Flush) -> Result<Outcome, &'static str> {
         let mut lent = Fenced::buffer(buffer, flush);
-        let images = (self.model.bytes(), self.instance.bytes());
+        let images = (self.model.bytes(), self.other.bytes());
         let packed = call(case, images, lent.bytes_mut());
         if !lent.marks_stand() {
             return Err("bytes beside the buffer were written to");

@@ -3,8 +3,9 @@
 
 use crate::generate::cases::Case;
 use crate::generate::describe::*;
-use crate::generate::fixed::{chain, full_instance, middle, tours, worked_example};
+use crate::generate::fixed::{chain, full_instance, full_members, middle, tours, worked_example};
 use crate::generate::instances::{InstanceDesc, NodeDesc, SlotDesc};
+use crate::generate::members::{MemberDesc, MembersDesc};
 use crate::generate::random::Random;
 use crate::generate::raw::Raw;
 
@@ -27,7 +28,7 @@ const fn row(name: &'static str, goal: f64, limit: f64, make: fn() -> Case) -> R
 }
 
 /// The limits of the test, all in this table: twice the goals.
-pub const ROWS: [Row; 29] = [
+pub const ROWS: [Row; 35] = [
     row("worked example", 1.0, 2.0, worked),
     row("middle model", 1.0, 2.0, middle_model),
     row(LARGEST, 1.0, 2.0, largest),
@@ -67,6 +68,12 @@ pub const ROWS: [Row; 29] = [
     row("refused 14: last segment lost", 3.0, 6.0, lost),
     row("refused 19: last binding", 3.0, 6.0, last_binding),
     row(TENTH, 3.0, 6.0, tenth),
+    row("32 members of four types", 1.0, 2.0, usual_members),
+    row("1,024 members of one type", 3.0, 6.0, members_of_one),
+    row("1,024 members, long names", 3.0, 6.0, members_alike),
+    row("1,024 members of 64 types", 3.0, 6.0, members_of_all),
+    row("1,024 members, falling names", 3.0, 6.0, members_falling),
+    row("refused 31: last of 1,024", 3.0, 6.0, last_member),
 ];
 
 /// The library's instructions for the largest model over those for a tenth.
@@ -265,14 +272,13 @@ fn aliases_alike() -> Case {
     keys(128, name_alike)
 }
 
-/// Name number i of 128, of 56 bytes each. Two blocks of eight bytes that leave
-/// the digest of rules_names the same, 1000003 times one word and another
-/// more, stand in it by the bits of i.
+/// Blocks of eight bytes that leave the digest of rules_names the same: 1000003
+/// times one word and another more.
+const BLOCKS: [&[u8; 8]; 2] = [b"aaaaazzz", b"aaabak87"];
+
+/// Name number i of 128, of 56 bytes each: blocks by the bits of i.
 fn name_digest(i: usize) -> Bytes {
-    let block = |bit: usize| match i >> bit & 1 {
-        0 => b"aaaaazzz",
-        _ => b"aaabak87",
-    };
+    let block = |bit: usize| BLOCKS[i >> bit & 1];
     (0..7).flat_map(block).copied().collect()
 }
 
@@ -514,25 +520,154 @@ fn last_binding() -> Case {
     model_case(&raw)
 }
 
+fn members_case(m: &ModelDesc, members: &MembersDesc) -> Case {
+    Case::Members {
+        model: model_bytes(m),
+        members: members.encode().to_bytes(),
+    }
+}
+
+/// The underlying types of the enumerations here.
+const BYTE: u32 = 3;
+const INT64: u32 = 12;
+const SBYTE: u32 = 13;
+
+fn enumeration(m: &mut ModelDesc, name: &str, underlying: u32) -> usize {
+    let t = m.add_type(ENUMERATION, name);
+    m.types[t].underlying = underlying;
+    t
+}
+
+/// The worked example with four enumerations: days and months are counted,
+/// grades and services have given values.
+fn usual_members() -> Case {
+    let mut m = worked_example();
+    let day = enumeration(&mut m, "Day", BYTE);
+    let month = enumeration(&mut m, "Month", INT32 - 64);
+    let grade = enumeration(&mut m, "Grade", SBYTE);
+    let service = enumeration(&mut m, "Service", INT64);
+    let mut members = MembersDesc::default();
+    for name in ["Mon", "Tue", "Wed", "Thu", "Fri", "Sat", "Sun"] {
+        members.add(day, name, None);
+    }
+    let months = [
+        "Jan", "Feb", "Mar", "Apr", "May", "Jun", "Jul", "Aug", "Sep", "Oct", "Nov", "Dec",
+    ];
+    for name in months {
+        members.add(month, name, None);
+    }
+    let grades = ["Worst", "Poor", "Plain", "Good", "Best"];
+    for (value, name) in (-2..).zip(grades) {
+        members.add(grade, name, Some(value));
+    }
+    let services = [
+        "None", "Guide", "Meal", "Bus", "Boat", "Bed", "Ticket", "Photo",
+    ];
+    for (i, name) in services.iter().enumerate() {
+        members.add(service, name, Some(1 << i >> 1));
+    }
+    members_case(&m, &members)
+}
+
+fn members_of_one() -> Case {
+    let (m, members) = full_members();
+    members_case(&m, &members)
+}
+
+/// A text of 1,151 bytes whose 1,024 parts of 128 bytes are alike for long and
+/// all differ: each part has two b, and each b is one further from the b before
+/// it than that one was.
+fn text_alike() -> Bytes {
+    let stretch = |a: usize| [vec![b'a'; a], vec![b'b']].concat();
+    let mut text: Bytes = (32..58).flat_map(stretch).collect();
+    text.truncate(1024 + 127);
+    text
+}
+
+/// 1,024 members of one type whose names are these parts.
+fn members_of_text() -> (ModelDesc, MembersDesc) {
+    let (m, _) = full_members();
+    let text = text_alike();
+    let member = |i: usize| MemberDesc {
+        type_number: 0,
+        value: Some(i as i64),
+        name: text[i..i + 128].to_vec(),
+    };
+    let members = (0..1024).map(member).collect();
+    (m, MembersDesc { members, text })
+}
+
+fn members_alike() -> Case {
+    let (m, members) = members_of_text();
+    members_case(&m, &members)
+}
+
+/// 16 names of 128 bytes, alike for long, in each of 64 types in turn.
+fn members_of_all() -> Case {
+    let mut m = ModelDesc::default();
+    m.schema("g");
+    for t in 0..64 {
+        enumeration(&mut m, &format!("T{t}"), INT64);
+    }
+    let member = |i: usize| MemberDesc {
+        type_number: i % 64,
+        value: Some(i as i64),
+        name: name_alike(i / 64),
+    };
+    let members = (0..1024).map(member).collect();
+    let text = Vec::new();
+    members_case(&m, &MembersDesc { members, text })
+}
+
+/// Each name comes before those of all earlier members.
+fn members_falling() -> Case {
+    let (m, mut members) = full_members();
+    members.members.reverse();
+    members_case(&m, &members)
+}
+
+/// The last of these members has the name of the first; its bytes stand at the
+/// end of the name bytes once more.
+fn last_member() -> Case {
+    let (m, mut members) = members_of_text();
+    let name = members.members[0].name.clone();
+    members.members[1023].name = name.clone();
+    let mut raw = members.encode();
+    let names = raw.names.as_mut().expect("members have names");
+    raw.tables[0][1023][2] = put_name(names, &name, false)[0];
+    Case::Members {
+        model: model_bytes(&m),
+        members: raw.to_bytes(),
+    }
+}
+
 #[cfg(test)]
 mod tests {
     use super::*;
 
-    /// The sum (FNV-1a) of the bytes of all images: a change of a generator that
-    /// moves an input is seen here.
-    const SUM: u64 = 10772326008924239123;
+    /// The sums (FNV-1a) of the bytes of all images, and of those of the rows
+    /// without members: a change of a generator that moves an input is seen here.
+    const SUM: u64 = 12442127034752590673;
+    const SUM_WITHOUT_MEMBERS: u64 = 10772326008924239123;
 
-    #[test]
-    fn inputs_stay() {
+    fn sum(rows: &[Row]) -> u64 {
         let mut sum: u64 = 0xcbf2_9ce4_8422_2325;
-        for row in &ROWS {
+        for row in rows {
             let case = (row.make)();
-            let (model, instance) = case.images();
-            for &byte in model.iter().chain(instance) {
+            let (model, other) = case.images();
+            for &byte in model.iter().chain(other) {
                 sum = (sum ^ u64::from(byte)).wrapping_mul(0x0100_0000_01b3);
             }
         }
-        assert_eq!(sum, SUM);
+        sum
+    }
+
+    #[test]
+    fn inputs_stay() {
+        let members = |row: &Row| matches!((row.make)(), Case::Members { .. });
+        let first = ROWS.iter().position(members).expect("rows of members");
+        assert_eq!(sum(&ROWS[..first]), SUM_WITHOUT_MEMBERS);
+        assert_eq!(sum(&ROWS), SUM);
     }
 
     /// Each input is what its name says, and made the same each time.

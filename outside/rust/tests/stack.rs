@@ -10,7 +10,7 @@ use outside::fence::{Fenced, Flush};
 use outside::ffi;
 use outside::generate::cases::{Case, Source};
 use outside::generate::describe::Layout;
-use outside::generate::fixed::full_instance;
+use outside::generate::fixed::{full_instance, full_members};
 use outside::generate::random::Random;
 use outside::inputs::ROWS;
 
@@ -99,20 +99,32 @@ fn calls_keep_to_the_stated_stack() {
         node: 0,
         buffer: vec![0; 4 * (1 + 1024 + 2048)],
     };
+    let (model, members) = full_members();
+    let largest_members = Case::Members {
+        model: model.encode(&Layout::plain()).to_bytes(),
+        members: members.encode().to_bytes(),
+    };
     let mut source = Source::new(7);
     let random = std::iter::repeat_with(|| source.next_case().0).take(1000);
     let inputs = ROWS.iter().map(|row| (row.make)());
-    let mut deepest = [0; 3];
-    for case in inputs.chain([largest_walk]).chain(random) {
+    let mut deepest = [0; 4];
+    let largest = [largest_walk, largest_members];
+    for case in inputs.chain(largest).chain(random) {
         let call = match case {
             Case::Model { .. } => 0,
             Case::Instance { .. } => 1,
             Case::Walk { .. } => 2,
+            Case::Members { .. } => 3,
         };
         deepest[call] = depth(&case).max(deepest[call]);
     }
-    println!("bytes of stack: model check, instance check, walk: {deepest:?}");
-    let names = ["TOUR_STACK_MODEL", "TOUR_STACK_INSTANCE", "TOUR_STACK_WALK"];
+    println!("bytes of stack: model check, instance check, walk, members check: {deepest:?}");
+    let names = [
+        "TOUR_STACK_MODEL",
+        "TOUR_STACK_INSTANCE",
+        "TOUR_STACK_WALK",
+        "TOUR_STACK_MEMBERS",
+    ];
     for (name, depth) in names.iter().zip(deepest) {
         assert!(depth <= stated(name), "{name}: a call uses {depth} bytes");
         assert!(stated(name) < 65536);

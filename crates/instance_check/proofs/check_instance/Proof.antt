@@ -1,7 +1,7 @@
 use mathlib.Core.Path.{sym, _∙_}
 use Rattle.csdl.specs.Conforms.{instanceAnswer, instanceThen}
 use Rattle.csdl.specs.Verdict.{instanceMeans}
-use Rattle.instance_check.proofs.Then.{then-on, model-passes, model-stops}
+use Rattle.model_check.proofs.Then.{then-on, model-passes, model-stops}
 use borrow.Author.Needs.{needs}
 use Rattle.instance_check.proofs.check_instance.Statement.{statement}
 use Rattle.instance_check.proofs.check_instance.Tie as tie

@@ -8,14 +8,11 @@ use Rattle.model_check.proofs.check_rules.Tie as tie
 returns : tie.Need-returns
 returns c = then-bad _ _ (sym (c .before .bad-image .ensures) ∙ c .if1 .taken)
 
-layout-of-requires : tie.Need-layout-of-requires
-layout-of-requires c κs = layout _ (sym (c .before .bad-image .ensures) ∙ c .if1 .left)
-
 first-broken-requires : tie.Need-first-broken-requires
-first-broken-requires c κs = (c .before .layout-of .ensures .0, refl)
+first-broken-requires c κs = (layout _ (sym (c .before .before .bad-image .ensures) ∙ c .before .if1 .left), refl)
 
 returns-2 : tie.Need-returns-2
-returns-2 c = c .before .first-broken .ensures .0 ∙ sym (then-good _ _ (sym (c .before .before .before .before .before .bad-image .ensures) ∙ c .before .before .before .before .if1 .left))
+returns-2 c = c .before .first-broken .ensures .0 ∙ sym (then-good _ _ (sym (c .before .before .before .before .bad-image .ensures) ∙ c .before .before .before .if1 .left))
 
 pub check-rules-spec : {M : Type 1} → statement M
 check-rules-spec =
@@ -23,7 +20,6 @@ check-rules-spec =
     (tie.spec
     (λ c κs. search needs)
     returns
-    layout-of-requires
     (λ c. search needs)
     first-broken-requires
     returns-2)

@@ -10,8 +10,8 @@ use Rattle.model_check.proofs.first_broken.Tie as tie
 
 first-among-requires : tie.Need-first-among-requires
 first-among-requires c κs =
-    let p = c .before .before .before .before .before .pre in
-    (p .0, search needs, search needs, search needs, search needs, clear-start _, p .1, λ h. absurd (omega (arith, h)))
+    let l = c .before .before .before in
+    (l .layout-of .ensures .0, search needs, search needs, search needs, search needs, clear-start _, l .before .before .before .pre .1, λ h. absurd (omega (arith, h)))
 
 first-among-requires-2 : tie.Need-first-among-requires-2
 first-among-requires-2 c κs =
@@ -19,7 +19,7 @@ first-among-requires-2 c κs =
     let n = t .before .before in
     let e = n .before .before in
     let f = e .before .before .before .before in
-    (f .before .before .before .before .before .before .pre .0, search needs, search needs, search needs, search needs, judged-unbroken _ _ _ _ (f .first-among .ensures .0 .0) (e .enum-told .given .1), f .first-among .ensures .0 .1, λ h. (is-index _ (t .before .index-of .ensures .0) (n .before .properties-of .ensures .0) (n .names-of .ensures), is-ancestors _ (c .before .before .before .all-ancestors .ensures) (t .types-of .ensures .0)))
+    (f .before .before .before .before .layout-of .ensures .0, search needs, search needs, search needs, search needs, judged-unbroken _ _ _ _ (f .first-among .ensures .0 .0) (e .enum-told .given .1), f .first-among .ensures .0 .1, λ h. (is-index _ (t .before .index-of .ensures .0) (n .before .properties-of .ensures .0) (n .names-of .ensures), is-ancestors _ (c .before .before .before .all-ancestors .ensures) (t .types-of .ensures .0)))
 
 returns : tie.Need-returns
 returns c =
@@ -33,6 +33,7 @@ pub first-broken-spec : {M : Type 1} → statement M
 first-broken-spec =
     tie.close
     (tie.spec
+    (λ c κs. search needs)
     (λ c. search needs)
     (λ c. search needs)
     first-among-requires

@@ -209,10 +209,10 @@ fn table() -> Result<(), String> {
 
 fn print_row(row: &Row, count: Option<(f64, f64)>) {
     let case = (row.make)();
-    let (model, instance) = case.images();
+    let (model, other) = case.images();
     let mut bytes = grouped(model.len() as f64);
-    if !instance.is_empty() {
-        bytes += &format!(" + {}", grouped(instance.len() as f64));
+    if !other.is_empty() {
+        bytes += &format!(" + {}", grouped(other.len() as f64));
     }
     let counted = match count {
         Some((library, unrelated)) => format!(

@@ -13,7 +13,8 @@ use outside::fence::Flush;
 use outside::ffi::{self, Images};
 use outside::generate::cases::{Case, Outcome, Source};
 use outside::generate::describe::Layout;
-use outside::generate::fixed::{chain, full_instance};
+use outside::generate::fixed::{chain, five_enumerations, full_instance, full_members};
+use outside::generate::members::MembersDesc;
 use outside::generate::random::Random;
 use outside::generate::report::{print_case, show};
 
@@ -90,6 +91,7 @@ impl Fuzz {
     /// The number of cases that were tried.
     fn run(&mut self, seed: u64) -> Result<usize, String> {
         self.bounds()?;
+        self.member_bounds()?;
         let mut source = Source::new(seed);
         let mut number = 0;
         while self.calls < self.most - self.most / THREAD_SHARE {
@@ -116,8 +118,8 @@ impl Fuzz {
 
     /// Nothing lent, and the largest images with buffers of every size.
     fn bounds(&mut self) -> Result<(), String> {
-        self.calls += 3;
-        if ffi::nothing_lent() != [1 << 32; 3] {
+        self.calls += 4;
+        if ffi::nothing_lent() != [1 << 32; 4] {
             return Err("null pointers are not refused by rule 1".into());
         }
         for more in [&[][..], &[0]] {
@@ -135,6 +137,30 @@ impl Fuzz {
                 buffer: vec![0; 4 * (1 + 1024 + 2048)],
             };
             self.sweep(&walk, true)?;
+        }
+        Ok(())
+    }
+
+    /// The largest members image, and one less and one more byte; all first
+    /// parts of a small image and a small image with one byte more.
+    fn member_bounds(&mut self) -> Result<(), String> {
+        let (model, members) = full_members();
+        let model = model.encode(&Layout::plain()).to_bytes();
+        let whole = [&members.encode().to_bytes()[..], &[0]].concat();
+        let mut small = MembersDesc::default();
+        for t in 0..5 {
+            small.add(t, "First", Some(t as i64));
+            small.add(t, "Second", Some(0));
+        }
+        let small_model = five_enumerations().encode(&Layout::plain()).to_bytes();
+        let small = [&small.encode().to_bytes()[..], &[0]].concat();
+        let ends = (whole.len() - 2..=whole.len()).map(|end| (&model, &whole[..end]));
+        let parts = (0..=small.len()).map(|end| (&small_model, &small[..end]));
+        for (model, members) in ends.chain(parts) {
+            self.twice(&Case::Members {
+                model: model.clone(),
+                members: members.to_vec(),
+            })?;
         }
         Ok(())
     }
@@ -211,7 +237,7 @@ fn stated(case: &Case) -> usize {
     };
     match case {
         Case::Model { .. } => 2 * count(model, 8, 1024),
-        Case::Instance { .. } => 0,
+        Case::Instance { .. } | Case::Members { .. } => 0,
         Case::Walk { .. } => 4 * (1 + count(instance, 2, 1024) + count(instance, 3, 2048)),
     }
 }

@@ -4,7 +4,7 @@ use std::collections::HashMap;
 
 use super::instance::*;
 use super::model::{Property, Span, COMPLEX};
-use super::model_rules::Known;
+use super::model_rules::{answer, Known};
 use super::Refusal;
 
 pub fn check(known: &Known, image: &[u8]) -> Result<Instance, Refusal> {
@@ -16,13 +16,6 @@ pub fn check(known: &Known, image: &[u8]) -> Result<Instance, Refusal> {
     answer(25, items(known, &instance))?;
     answer(26, holders(known, &instance))?;
     Ok(instance)
-}
-
-fn answer(rule: u32, place: Option<u32>) -> Result<(), Refusal> {
-    match place {
-        None => Ok(()),
-        Some(place) => Err(Refusal { rule, place }),
-    }
 }
 
 /// Rule 21. Runs are counted only once the records that hold them are sound.

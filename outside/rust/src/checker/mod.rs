@@ -1,8 +1,9 @@
-//! The checker: four questions on lent bytes.
+//! The checker: five questions on lent bytes.
 
 pub mod bits;
 pub mod instance;
 pub mod instance_rules;
+pub mod members;
 pub mod model;
 pub mod model_rules;
 pub mod naming;
@@ -22,6 +23,7 @@ pub struct Refusal {
 pub enum Answer {
     ModelAccepted { segments: u32 },
     InstanceAccepted,
+    MembersAccepted,
     Walked { results: u32, opened: u32 },
     Refused { rule: u32, place: u32 },
 }
@@ -31,7 +33,7 @@ impl Answer {
     pub fn packed(self) -> u64 {
         match self {
             Answer::ModelAccepted { segments } => u64::from(segments),
-            Answer::InstanceAccepted => 0,
+            Answer::InstanceAccepted | Answer::MembersAccepted => 0,
             Answer::Walked { results, opened } => u64::from(results) * 65536 + u64::from(opened),
             Answer::Refused { rule, place } => (u64::from(rule) << 32) + u64::from(place),
         }
@@ -89,6 +91,15 @@ pub fn walk(
                 opened: walked.opened,
             }
         }
+    }
+}
+
+/// The model's rules without 2, then 30 and 31.
+pub fn check_members(model: &[u8], members: &[u8]) -> Answer {
+    let checked = model_rules::check(model, None).and_then(|known| members::check(&known, members));
+    match checked {
+        Err(refusal) => refusal.into(),
+        Ok(()) => Answer::MembersAccepted,
     }
 }
 

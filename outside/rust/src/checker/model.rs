@@ -243,7 +243,7 @@ fn records<T>(table: &[u8], size: usize, decode: fn(&mut Fields) -> T) -> Vec<T>
         .collect()
 }
 
-fn name(f: &mut Fields) -> Span {
+pub fn name(f: &mut Fields) -> Span {
     Span {
         first: f.take(12) as usize,
         count: f.take(8) as usize,

@@ -60,7 +60,8 @@ pub fn well_formed(image: &[u8], room: Option<usize>) -> Result<Model<'_>, Refus
     Ok(model)
 }
 
-fn answer(rule: u32, place: Option<u32>) -> Result<(), Refusal> {
+/// The refusal at a place, if there is one.
+pub fn answer(rule: u32, place: Option<u32>) -> Result<(), Refusal> {
     match place {
         None => Ok(()),
         Some(place) => Err(Refusal { rule, place }),
@@ -220,7 +221,7 @@ fn bad_optional(span: Span, size: usize) -> bool {
     }
 }
 
-fn bad_span(span: Span, size: usize) -> bool {
+pub fn bad_span(span: Span, size: usize) -> bool {
     !span.present() || bad_optional(span, size)
 }
 
@@ -300,7 +301,7 @@ fn bad_names(m: &Model) -> Option<u32> {
     })
 }
 
-fn simple_identifier(name: &[u8]) -> bool {
+pub fn simple_identifier(name: &[u8]) -> bool {
     (1..=128).contains(&name.len())
         && !name[0].is_ascii_digit()
         && name.iter().all(|&b| IDENTIFIER_BYTE[usize::from(b)])

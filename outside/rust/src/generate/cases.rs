@@ -1,8 +1,10 @@
 //! Cases: a call with its arguments, and what is known of its answer.
 
 use super::damage_raw::{self as damage, Aim};
-use super::describe::{Layout, ModelDesc};
+use super::describe::{Layout, ModelDesc, ENUMERATION};
 use super::instances::{self, InstanceDesc, Room};
+use super::members::{self, MembersDesc};
+use super::members_cases::Declared;
 use super::models::{self, Shape};
 use super::random::Random;
 use super::raw::Raw;
@@ -18,6 +20,10 @@ pub enum Case {
     Instance {
         model: Vec<u8>,
         instance: Vec<u8>,
+    },
+    Members {
+        model: Vec<u8>,
+        members: Vec<u8>,
     },
     Walk {
         model: Vec<u8>,
@@ -50,6 +56,7 @@ impl Case {
         match self {
             Case::Model { image, .. } => checker::check_model(image, lent),
             Case::Instance { model, instance } => checker::check_instance(model, instance),
+            Case::Members { model, members } => checker::check_members(model, members),
             Case::Walk {
                 model,
                 instance,
@@ -61,18 +68,20 @@ impl Case {
         }
     }
 
-    /// The buffer that is lent to be written to; an instance check has none.
+    /// The buffer that is lent to be written to; the checks of an instance and
+    /// of members have none.
     pub fn buffer(&self) -> &[u8] {
         match self {
             Case::Model { buffer, .. } | Case::Walk { buffer, .. } => buffer,
-            Case::Instance { .. } => &[],
+            Case::Instance { .. } | Case::Members { .. } => &[],
         }
     }
 
-    /// The model image, and the instance image or nothing.
+    /// The model image, and the instance image, the members image or nothing.
     pub fn images(&self) -> (&[u8], &[u8]) {
         match self {
             Case::Model { image, .. } => (image, &[]),
+            Case::Members { model, members } => (model, members),
             Case::Instance { model, instance }
             | Case::Walk {
                 model, instance, ..
@@ -91,7 +100,7 @@ pub enum Expect {
 }
 
 impl Expect {
-    fn aimed(rule: u32, aim: Aim) -> Expect {
+    pub fn aimed(rule: u32, aim: Aim) -> Expect {
         match aim {
             Aim::Place(place) => Expect::At(rule, place),
             Aim::Rule => Expect::Rule(rule),
@@ -113,12 +122,14 @@ impl Expect {
     }
 }
 
-/// A sound model and a sound instance of it, from which cases are made.
+/// A sound model, a sound instance of it and sound members of its enumerations,
+/// from which cases are made.
 struct Base {
     model: ModelDesc,
     image: Vec<u8>,
     instance: InstanceDesc,
     instance_image: Vec<u8>,
+    members: MembersDesc,
 }
 
 /// An endless row of cases, the same for the same seed.
@@ -158,11 +169,17 @@ impl Source {
         self.left -= 1;
         self.made += 1;
         match self.r.below(100) {
-            0..=9 => self.sound_model(),
-            10..=15 => self.sound_instance(),
-            16..=31 => self.sound_walk(),
+            0..=8 => self.sound_model(),
+            9..=13 => self.sound_instance(),
+            14..=27 => self.sound_walk(),
+            28..=31 => self.sound_members(),
             32..=76 => {
-                let rule = self.r.range(1, 29) as u32;
+                // 30 and 31 have many causes and come twice as often.
+                let rule = match self.r.range(1, 33) as u32 {
+                    32 => 30,
+                    33 => 31,
+                    rule => rule,
+                };
                 self.aimed(rule)
             }
             77..=86 => self.several(),
@@ -191,6 +208,10 @@ impl Source {
         }
     }
 
+    fn sound_members(&mut self) -> (Case, Expect) {
+        self.base.declared(&mut self.r).sound(&mut self.r)
+    }
+
     /// A case that breaks the rule; other bases are tried until one can.
     fn aimed(&mut self, rule: u32) -> (Case, Expect) {
         for _ in 0..40 {
@@ -199,7 +220,8 @@ impl Source {
                 2 => base.short_resolution(&mut self.r),
                 1 | 3..=19 => base.bad_model(&mut self.r, &[rule]),
                 20..=26 => base.bad_instance(&mut self.r, &[rule]),
-                _ => base.bad_walk(&mut self.r, rule),
+                27..=29 => base.bad_walk(&mut self.r, rule),
+                _ => base.declared(&mut self.r).broken(&mut self.r, rule),
             };
             match made {
                 Some(made) => return made,
@@ -213,17 +235,28 @@ impl Source {
     fn several(&mut self) -> (Case, Expect) {
         let r = &mut self.r;
         let many = r.range(2, 3);
-        let made = if r.chance(65) {
-            let rules: Vec<u32> = (0..many).map(|_| r.range(3, 19) as u32).collect();
-            self.base.bad_model(r, &rules)
-        } else {
-            let rules: Vec<u32> = (0..many).map(|_| r.range(21, 26) as u32).collect();
-            self.base.bad_instance(r, &rules)
+        let made = match r.below(20) {
+            0..=11 => {
+                let rules: Vec<u32> = (0..many).map(|_| r.range(3, 19) as u32).collect();
+                self.base.bad_model(r, &rules)
+            }
+            12..=17 => {
+                let rules: Vec<u32> = (0..many).map(|_| r.range(21, 26) as u32).collect();
+                self.base.bad_instance(r, &rules)
+            }
+            _ => return self.broken_members(),
         };
         match made {
             Some((case, _)) => (case, Expect::Anything),
             None => self.sound_model(),
         }
+    }
+
+    /// Members broken at two places: what must answer is known.
+    fn broken_members(&mut self) -> (Case, Expect) {
+        let declared = self.base.declared(&mut self.r);
+        let made = declared.broken_twice(&mut self.r);
+        made.unwrap_or_else(|| declared.sound(&mut self.r))
     }
 
     /// Damage that aims at nothing.
@@ -233,7 +266,7 @@ impl Source {
         if r.chance(2) {
             return (largest(r), Expect::Anything);
         }
-        let case = match r.below(8) {
+        let case = match r.below(9) {
             0 | 1 => base.stray_model(r),
             2 | 3 => base.stray_instance(r),
             4 => base.random_model(r),
@@ -242,6 +275,7 @@ impl Source {
                 model: base.image.clone(),
                 instance: self.other_instance.clone(),
             },
+            7 => base.declared(r).stray(r, self.made),
             _ => base.stray_walk(r),
         };
         (case, Expect::Anything)
@@ -250,10 +284,13 @@ impl Source {
 
 /// Cases with tables as full as they may be, sound or with a stray fault.
 fn largest(r: &mut Random) -> Case {
+    if r.chance(25) {
+        return largest_members(r);
+    }
     if r.coin() {
         let mut raw = fixed::chain(r.range(1, 64));
         if r.coin() {
-            stray(r, &mut raw);
+            stray_fields(r, &mut raw);
         }
         let image = raw.to_bytes();
         let buffer = room_for_segments(r, &image);
@@ -262,7 +299,7 @@ fn largest(r: &mut Random) -> Case {
     let (model, instance) = fixed::full_instance();
     let mut raw = instance.encode(r);
     if r.coin() {
-        stray(r, &mut raw);
+        stray_fields(r, &mut raw);
     }
     Case::Walk {
         model: encode(r, &model).to_bytes(),
@@ -271,6 +308,18 @@ fn largest(r: &mut Random) -> Case {
         path: 0,
         node: if r.chance(70) { 0 } else { r.below(257) as u32 },
         buffer: room(r, 4 * (1 + 1024 + 2048)),
+    }
+}
+
+fn largest_members(r: &mut Random) -> Case {
+    let (model, members) = fixed::full_members();
+    let mut raw = members.encode();
+    if r.coin() {
+        stray_fields(r, &mut raw);
+    }
+    Case::Members {
+        model: encode(r, &model).to_bytes(),
+        members: raw.to_bytes(),
     }
 }
 
@@ -348,11 +397,31 @@ impl Base {
         };
         let instance = instances::instance(r, &model, &starts, room);
         let instance_image = instance.encode(r).to_bytes();
+        let members = members::members(r, &model);
         Base {
             model,
             image,
             instance,
             instance_image,
+            members,
+        }
+    }
+
+    /// Members of this model, or of a model of types alone.
+    fn declared(&self, r: &mut Random) -> Declared {
+        let enumerations = !self.model.of_kind(ENUMERATION).is_empty();
+        if r.chance(if enumerations { 60 } else { 8 }) {
+            return Declared {
+                model: self.model.clone(),
+                image: self.image.clone(),
+                members: self.members.clone(),
+            };
+        }
+        let model = members::enumerations(r);
+        Declared {
+            image: encode(r, &model).to_bytes(),
+            members: members::members(r, &model),
+            model,
         }
     }
 
@@ -458,9 +527,9 @@ impl Base {
         Some((self.with_model(r, image), expect))
     }
 
-    /// Hands a damaged model to one of the three calls.
+    /// Hands a damaged model to one of the four calls.
     fn with_model(&self, r: &mut Random, image: Vec<u8>) -> Case {
-        match r.below(10) {
+        match r.below(11) {
             0 => Case::Instance {
                 model: image,
                 instance: self.instance_image.clone(),
@@ -473,11 +542,24 @@ impl Base {
                 node: 0,
                 buffer: room(r, self.results_room()),
             },
+            2 => Case::Members {
+                model: image,
+                members: self.any_members(r),
+            },
             _ => {
                 let buffer = room_for_segments(r, &image);
                 Case::Model { image, buffer }
             }
         }
+    }
+
+    /// The image of the members, as it is or cut short.
+    fn any_members(&self, r: &mut Random) -> Vec<u8> {
+        let mut image = self.members.encode().to_bytes();
+        if r.chance(30) {
+            image.truncate(r.below(image.len()));
+        }
+        image
     }
 
     fn bad_instance(&self, r: &mut Random, rules: &[u32]) -> Option<(Case, Expect)> {
@@ -590,7 +672,7 @@ impl Base {
     fn stray_model(&self, r: &mut Random) -> Case {
         let mut raw = encode(r, &self.model);
         for _ in 0..r.range(1, 2) {
-            stray(r, &mut raw);
+            stray_fields(r, &mut raw);
         }
         let mut image = raw.to_bytes();
         if r.chance(30) {
@@ -603,7 +685,7 @@ impl Base {
     fn stray_instance(&self, r: &mut Random) -> Case {
         let mut raw = self.instance.encode(r);
         for _ in 0..r.range(1, 2) {
-            stray(r, &mut raw);
+            stray_fields(r, &mut raw);
         }
         let mut image = raw.to_bytes();
         if r.chance(30) {
@@ -662,7 +744,8 @@ impl Base {
     }
 }
 
-fn stray(r: &mut Random, raw: &mut Raw) {
+/// One field changed, or one record dropped, repeated or moved.
+pub fn stray_fields(r: &mut Random, raw: &mut Raw) {
     match r.below(8) {
         0..=4 => damage::change_field(r, raw),
         5 => damage::drop_record(r, raw),

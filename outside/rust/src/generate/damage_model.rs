@@ -136,7 +136,8 @@ pub fn plain_property(owner: usize, name: Bytes, type_ref: u32) -> PropertyDesc 
 
 // Rule 5.
 
-fn bad_identifier(r: &mut Random) -> Bytes {
+/// A name that is no simple identifier.
+pub fn bad_identifier(r: &mut Random) -> Bytes {
     match r.below(9) {
         0 => b"1a".to_vec(),
         1 => b"a-b".to_vec(),

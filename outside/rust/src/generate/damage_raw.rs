@@ -158,7 +158,7 @@ fn bad_path_span(r: &mut Random, raw: &mut Raw, table: usize, number: usize) -> 
 }
 
 /// Past its table by one or by much, absent but not at 0, or absent.
-fn bad_span(
+pub fn bad_span(
     r: &mut Random,
     record: &mut [u32],
     field: usize,

@@ -375,6 +375,24 @@ impl Layout {
     }
 }
 
+/// Start and length of a name in the name bytes: where it stands already, if
+/// names are shared, or else at their end.
+pub fn put_name(names: &mut Bytes, name: &[u8], share: bool) -> [u32; 2] {
+    if name.is_empty() {
+        return [0, 0];
+    }
+    let found = if share {
+        names.windows(name.len()).position(|part| part == name)
+    } else {
+        None
+    };
+    let start = found.unwrap_or_else(|| {
+        names.extend(name);
+        names.len() - name.len()
+    });
+    [start as u32 & 0xfff, name.len() as u32 & 0xff]
+}
+
 struct Encoder {
     names: Bytes,
     share: bool,
@@ -386,19 +404,7 @@ struct Encoder {
 
 impl Encoder {
     fn name(&mut self, name: &[u8]) -> [u32; 2] {
-        if name.is_empty() {
-            return [0, 0];
-        }
-        let found = if self.share {
-            self.names.windows(name.len()).position(|part| part == name)
-        } else {
-            None
-        };
-        let start = found.unwrap_or_else(|| {
-            self.names.extend(name);
-            self.names.len() - name.len()
-        });
-        [start as u32 & 0xfff, name.len() as u32 & 0xff]
+        put_name(&mut self.names, name, self.share)
     }
 
     fn segment(&mut self, seg: &Seg) {

@@ -1,8 +1,9 @@
-//! Models and instances that are always the same: the worked example of
-//! document 01, a middle-sized model and the largest one.
+//! Models, instances and members that are always the same: the worked example
+//! of document 01, a middle-sized model and the largest one.
 
 use super::describe::*;
 use super::instances::{InstanceDesc, NodeDesc, SlotDesc};
+use super::members::{MembersDesc, UNDERLYING};
 use super::models::{self, Shape};
 use super::random::Random;
 use super::raw::Raw;
@@ -112,6 +113,30 @@ pub fn full_instance() -> (ModelDesc, InstanceDesc) {
     };
     let nodes = (0..256).map(node).collect();
     (m, InstanceDesc { nodes })
+}
+
+/// An enumeration for each underlying type, in the order of their codes.
+pub fn five_enumerations() -> ModelDesc {
+    let mut m = ModelDesc::default();
+    m.schema("g");
+    for (code, ..) in UNDERLYING {
+        let t = m.add_type(ENUMERATION, &format!("Of{code}"));
+        m.types[t].underlying = code;
+    }
+    m
+}
+
+/// A model, and members of it: 1024 of one type, with 4096 name bytes.
+pub fn full_members() -> (ModelDesc, MembersDesc) {
+    let mut m = ModelDesc::default();
+    m.schema("g");
+    let code = m.add_type(ENUMERATION, "Code");
+    m.types[code].underlying = INT32 - 64;
+    let mut members = MembersDesc::default();
+    for i in 0..1024 {
+        members.add(code, &format!("m{i:03x}"), None);
+    }
+    (m, members)
 }
 
 /// About 20 types, 150 properties and 60 segments.

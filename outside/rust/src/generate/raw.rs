@@ -16,6 +16,9 @@ pub const MODEL_WIDTHS: [&[u32]; 8] = [
 /// Field widths of the instance's tables: node, slot, item.
 pub const INSTANCE_WIDTHS: [&[u32]; 3] = [&[6, 11, 10, 5], &[9, 2, 12, 12, 5], &[8, 24]];
 
+/// Field widths of the members' table; a value is split over two fields.
+pub const MEMBERS_WIDTHS: [&[u32]; 1] = [&[6, 1, 12, 8, 32, 32, 5]];
+
 pub type Record = Vec<u32>;
 
 #[derive(Debug, Clone)]
@@ -43,6 +46,15 @@ impl Raw {
             widths: &INSTANCE_WIDTHS,
             tables: vec![Vec::new(); 3],
             names: None,
+        }
+    }
+
+    pub fn members() -> Raw {
+        Raw {
+            version: 0x0402,
+            widths: &MEMBERS_WIDTHS,
+            tables: vec![Vec::new()],
+            names: Some(Vec::new()),
         }
     }
 
@@ -75,14 +87,14 @@ impl Raw {
 /// Packs one record, most significant bit first.
 fn pack(record: &[u32], widths: &[u32], bytes: &mut Vec<u8>) {
     assert_eq!(record.len(), widths.len());
-    let mut value = 0u64;
+    let mut value = 0u128;
     let mut bits = 0;
     for (&field, &width) in record.iter().zip(widths) {
         assert!(
             u64::from(field) < 1 << width,
             "field {field} in {width} bits"
         );
-        value = value << width | u64::from(field);
+        value = value << width | u128::from(field);
         bits += width;
     }
     assert_eq!(bits % 8, 0);

@@ -3,13 +3,16 @@
 use super::cases::Case;
 use crate::checker::Answer;
 
+/// The rules have the numbers 1 to this one.
+const LAST_RULE: usize = 31;
+
 pub const DEFAULT_CASES: usize = 20_000;
 pub const DEFAULT_SEED: u64 = 20_240_228;
 
 pub struct Options {
     pub cases: usize,
     pub seed: u64,
-    /// Least number of cases for each of the rules 1 to 29.
+    /// Least number of cases for each of the rules 1 to 31.
     pub require: u64,
 }
 
@@ -49,10 +52,11 @@ fn number(text: &str) -> Result<u64, String> {
 pub struct Tally {
     models: u64,
     instances: u64,
+    members: u64,
     walks: u64,
-    refused: [u64; 30],
+    refused: [u64; LAST_RULE + 1],
     /// Of those, with a place other than 0.
-    later: [u64; 30],
+    later: [u64; LAST_RULE + 1],
     opened: u64,
     results: u64,
 }
@@ -62,6 +66,7 @@ impl Tally {
         match answer {
             Answer::ModelAccepted { .. } => self.models += 1,
             Answer::InstanceAccepted => self.instances += 1,
+            Answer::MembersAccepted => self.members += 1,
             Answer::Walked { results, opened } => {
                 self.walks += 1;
                 self.results += u64::from(results);
@@ -76,18 +81,19 @@ impl Tally {
 
     pub fn print(&self) {
         println!("rule    cases   place>0");
-        for rule in 1..30 {
+        for rule in 1..=LAST_RULE {
             println!("{rule:4} {:8}  {:8}", self.refused[rule], self.later[rule]);
         }
         println!(
-            "accepted: {} models, {} instances, {} walks ({} results, {} slots opened)",
-            self.models, self.instances, self.walks, self.results, self.opened
+            "accepted: {} models, {} instances, {} members images, {} walks \
+             ({} results, {} slots opened)",
+            self.models, self.instances, self.members, self.walks, self.results, self.opened
         );
     }
 
     /// The rules with fewer cases than required.
     pub fn missing(&self, require: u64) -> Vec<usize> {
-        (1..30)
+        (1..=LAST_RULE)
             .filter(|&rule| self.refused[rule] < require)
             .collect()
     }
@@ -108,6 +114,11 @@ pub fn print_case(case: &Case) {
             println!("check_instance");
             println!("  model    {}", hex(model));
             println!("  instance {}", hex(instance));
+        }
+        Case::Members { model, members } => {
+            println!("check_members");
+            println!("  model    {}", hex(model));
+            println!("  members  {}", hex(members));
         }
         Case::Walk {
             model,
@@ -133,7 +144,7 @@ pub fn show(case: &Case, packed: u64) -> String {
     match case {
         _ if rule != 0 => format!("refused {rule} place {rest}"),
         Case::Model { .. } => format!("accepted {rest}"),
-        Case::Instance { .. } => format!("accepted ({rest})"),
+        Case::Instance { .. } | Case::Members { .. } => format!("accepted ({rest})"),
         Case::Walk { .. } => format!("walked: {} results, {} opened", rest >> 16, rest & 0xffff),
     }
 }

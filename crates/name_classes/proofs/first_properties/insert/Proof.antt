@@ -1,6 +1,6 @@
 use native.Mathlib.Omega.{arith}
 use lib.ListN.{length-set}
-use Rattle.name_classes.proofs.Sorting.{Shifted, shifted-start, shifted-next, shifted-end}
+use Rattle.name_classes.proofs.Sorting.{Shifted, shifted-start, shifted-next, shifted-end, entry-is}
 use borrow.Author.Needs.{needs}
 use Rattle.name_classes.proofs.first_properties.insert.Statement.{statement}
 use Rattle.name_classes.proofs.first_properties.insert.Tie as tie
@@ -21,7 +21,7 @@ same-length : tie.Need-same-length Inv-loop μ-loop
 same-length c = simp length-set (c .before .loop .inv .size)
 
 returns : tie.Need-returns Inv-loop μ-loop
-returns c = shifted-end _ _ _ _ _ (c .before .loop .inv) _ (omega arith)
+returns c = let n = shifted-end _ _ _ _ _ (c .before .loop .inv) _ (omega arith) in (n, entry-is _ _ _ _ _ n)
 
 pub insert-spec : {M : Type 1} → statement M
 insert-spec =

@@ -42,7 +42,7 @@ add-firsts : tie.Need-add-firsts Inv-loop μ-loop
 add-firsts c = let l = c .before .before .before .before .before .before .before .before .before .before .loop in let f = l .inv .2 in omega (arith, f .most)
 
 array-write-index : tie.Need-array-write-index Inv-loop μ-loop
-array-write-index c = let l = c .before .before .before .before .before .before .before .before .before .before .loop in let f = l .inv .2 in omega (arith, c .before .insert .ensures .size, f .size)
+array-write-index c = let l = c .before .before .before .before .before .before .before .before .before .before .loop in let f = l .inv .2 in omega (arith, c .before .insert .ensures .0 .size, f .size)
 
 array-write-index-2 : tie.Need-array-write-index-2 Inv-loop μ-loop
 array-write-index-2 c = let l = c .before .before .before .before .before .before .before .loop in let f = l .inv .2 in omega (arith, f .size)
@@ -54,7 +54,7 @@ loop-again c = let l = c .before .before .before .before .before .before .before
       search needs,
       search needs,
       ⊎-elim
-          (λ w. rw (w .4, w .5) (ranked-new _ _ _ _ f (omega arith) _ _ e (w .0 .taken) (rw t at (c .before .before .before .position .ensures)) _ (w .2 .ensures)))
+          (λ w. rw (w .4, w .5) (ranked-new _ _ _ _ f (omega arith) _ _ e (w .0 .taken) (rw t at (c .before .before .before .position .ensures)) _ (w .2 .ensures .0)))
           (λ w. rw (w .1, w .2) (ranked-old _ _ _ _ f (omega arith) _ _ e (w .0 .left)))
           (c .if1 .came),
     )
