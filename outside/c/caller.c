@@ -79,30 +79,31 @@ static void print_model(const uint8_t *bytes, size_t length, size_t room)
     free(image);
 }
 
+/* A check of a second image against its model. */
+typedef uint64_t check(const uint8_t *model, size_t model_length, const uint8_t *second, size_t second_length);
+
+static void print_check(check *call, const char *name, const char *conform, const uint8_t *model, size_t model_length, const uint8_t *second,
+                        size_t length)
+{
+    uint8_t *first = copy(model, model_length);
+    uint8_t *bytes = copy(second, length);
+    uint64_t answer = call(first, model_length, bytes, length);
+    if (TOUR_REFUSED(answer))
+        printf("%s refused %u place %u\n", name, TOUR_RULE(answer), TOUR_PLACE(answer));
+    else
+        printf("%s %s\n", name, conform);
+    free(bytes);
+    free(first);
+}
+
 static void print_instance(const uint8_t *bytes, size_t length)
 {
-    uint8_t *model = copy(tour, sizeof tour);
-    uint8_t *instance = copy(bytes, length);
-    uint64_t answer = tour_check_instance(model, sizeof tour, instance, length);
-    if (TOUR_REFUSED(answer))
-        printf("instance refused %u place %u\n", TOUR_RULE(answer), TOUR_PLACE(answer));
-    else
-        printf("instance conforms\n");
-    free(instance);
-    free(model);
+    print_check(tour_check_instance, "instance", "conforms", tour, sizeof tour, bytes, length);
 }
 
 static void print_members(const uint8_t *bytes, size_t length)
 {
-    uint8_t *model = copy(tones, sizeof tones);
-    uint8_t *members = copy(bytes, length);
-    uint64_t answer = tour_check_members(model, sizeof tones, members, length);
-    if (TOUR_REFUSED(answer))
-        printf("members refused %u place %u\n", TOUR_RULE(answer), TOUR_PLACE(answer));
-    else
-        printf("members conform\n");
-    free(members);
-    free(model);
+    print_check(tour_check_members, "members", "conform", tones, sizeof tones, bytes, length);
 }
 
 static void print_walk(uint32_t place, uint32_t path, uint32_t node, size_t room)

@@ -6,7 +6,7 @@
 use outside::checker::{check_members, Answer};
 use outside::generate::describe::*;
 use outside::generate::fixed::{five_enumerations, full_members, worked_example};
-use outside::generate::members::MembersDesc;
+use outside::generate::members::{MembersDesc, GIVEN, HIGH, LENGTH, LOW, SPARE, START, TYPE};
 use outside::generate::raw::Raw;
 
 /// The enumerations of `five_enumerations`.
@@ -19,15 +19,6 @@ const SBYTE: usize = 4;
 const ENTITY_TYPE: usize = 5;
 const COMPLEX_TYPE: usize = 6;
 const TYPE_DEFINITION: usize = 7;
-
-/// Fields of a member.
-const TYPE: usize = 0;
-const GIVEN: usize = 1;
-const START: usize = 2;
-const LENGTH: usize = 3;
-const HIGH: usize = 4;
-const LOW: usize = 5;
-const SPARE: usize = 6;
 
 fn image(m: &ModelDesc) -> Vec<u8> {
     m.encode(&Layout::plain()).to_bytes()

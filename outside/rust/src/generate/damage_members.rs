@@ -10,15 +10,6 @@ use super::raw::{Raw, Record};
 /// Bytes of the header of a members image.
 const HEADER: usize = 6;
 
-/// The fields of a member.
-const TYPE: usize = 0;
-const GIVEN: usize = 1;
-const START: usize = 2;
-const LENGTH: usize = 3;
-const HIGH: usize = 4;
-const LOW: usize = 5;
-const SPARE: usize = 6;
-
 /// Rule 30 at a member.
 pub fn field(r: &mut Random, model: &ModelDesc, raw: &mut Raw) -> Option<Aim> {
     let count = raw.tables[0].len();

@@ -10,6 +10,15 @@ use super::raw::{Raw, Record};
 pub const MOST_MEMBERS: usize = 1024;
 pub const MOST_NAME_BYTES: usize = 4096;
 
+/// The fields of a member.
+pub const TYPE: usize = 0;
+pub const GIVEN: usize = 1;
+pub const START: usize = 2;
+pub const LENGTH: usize = 3;
+pub const HIGH: usize = 4;
+pub const LOW: usize = 5;
+pub const SPARE: usize = 6;
+
 /// Codes of the underlying types, with their lowest and highest value.
 pub const UNDERLYING: [(u32, i64, i64); 5] = [
     (3, 0, 255),
