@@ -1,5 +1,7 @@
 // Runs the stored cases. Each line of the file `list` names a check or a walk and the files of its images; the program prints
 // the verdict of each, a line to a case, and the bytes of the lent buffer that the line asks for.
+#![tactic(auto)]
+
 mod enumerations;
 mod instances;
 mod line;

@@ -1,5 +1,7 @@
 // An answer as the one 64-bit number that a caller in C gets: specs/Word says which. What the calls owe to a caller stands in
 // specs/Demands, and proofs/ prove it from the equations of their contracts.
+#![tactic(auto)]
+
 ghost use Rattle.std.specs.Prelude.{◌≡◌, ◌+◌, ◌*◌};
 ghost use Rattle.csdl.specs.Members.{members_means};
 ghost use Rattle.csdl.specs.Verdict.{model_means, instance_means, walk_means};

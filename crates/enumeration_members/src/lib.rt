@@ -1,4 +1,6 @@
 // The check of enumeration members against their model: rules 1 and 3 to 19 of the model, then 30 and 31.
+#![tactic(auto)]
+
 mod fields;
 mod form;
 mod names;

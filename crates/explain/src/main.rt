@@ -1,5 +1,7 @@
 // Explains the mark of a model: of the image on standard input, or of the image in each file that an argument names; - is standard input.
 // For more than one argument each explanation stands under a line with its name. What cannot be read gets none.
+#![tactic(auto)]
+
 mod description;
 mod explanation;
 mod listing;

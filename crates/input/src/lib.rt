@@ -1,5 +1,7 @@
 // The images that a program is given: on standard input, or in the files that its arguments name. What cannot be opened or read is named
 // on standard error, with the reason. No contract can say which bytes are read; these say that the sizes count bytes of the arrays.
+#![tactic(auto)]
+
 ghost use Rattle.std.specs.Prelude.{◌≡◌, ◌≤◌, length, take};
 
 // A byte more than the largest image of a model, so that one that is too long is seen to be.

@@ -1,4 +1,6 @@
 // The check of an instance: rules 1 and 3 to 19 of its model, then 20 to 26.
+#![tactic(auto)]
+
 mod images;
 mod rules;
 

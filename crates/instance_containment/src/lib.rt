@@ -1,4 +1,6 @@
 // Rule 26: what each item holds, who holds a node, and what lies within it.
+#![tactic(auto)]
+
 mod arrays;
 mod rows;
 

@@ -1,5 +1,7 @@
 // The later kinds of image, which are handed in beside a model: where their tables begin, the tables and the name bytes as parts of the image, and
 // the test of the whole image. A kind is the list of its sizes, the bytes of a record of each table; none has more than eight tables.
+#![tactic(auto)]
+
 ghost use Rattle.std.specs.Prelude.{◌≡◌, ◌+◌, ◌*◌, ◌≤◌, ◌<◌, ltb, length};
 ghost use Rattle.csdl.specs.Search.{any_from};
 ghost use Rattle.csdl.specs.Image.{header};

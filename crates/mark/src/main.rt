@@ -1,5 +1,6 @@
 // Prints the sheet of a model: of the image on standard input, or of the image in each file that an argument names; - is standard input.
 // For more than one argument each sheet stands under a line with its name. What cannot be read gets no sheet.
+#![tactic(auto)]
 
 // Writes the bytes, in one call where the system takes them all, and answers whether it did; a failure is named on standard error.
 fn written(text: &[u8]) -> bool {

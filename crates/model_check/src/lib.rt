@@ -1,4 +1,6 @@
 // The check of a model image, rules 1 to 19: the first that is broken and its lowest place, or acceptance and what the segments resolve to.
+#![tactic(auto)]
+
 ghost use Rattle.std.specs.Prelude.{◌≡◌, [], ◌∷◌, ℕ, ◌≤◌, ◌<◌, length};
 ghost use Rattle.csdl.specs.Image.{model_in};
 ghost use Rattle.csdl.specs.Verdict as verdicts;

@@ -7,7 +7,7 @@ use csdl::Run;
 use packed::{part_of, two_fields};
 
 // Where a name starts in the name bytes, and its length; length 0 means absent.
-#[derive(Drop)]
+#[derive(Clone, Copy)]
 pub struct Name {
     pub start: u16,
     pub size: u16,

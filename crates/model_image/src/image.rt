@@ -7,7 +7,7 @@ use csdl::VERSION;
 use packed::number_at;
 
 // The counts of the header.
-#[derive(Drop)]
+#[derive(Clone, Copy)]
 pub struct Counts {
     pub schemas: u16,
     pub types: u16,
@@ -37,7 +37,7 @@ pub fn counts_of(image: &[u8]) -> Counts
 }
 
 // The byte at which each part begins, after the schemas at byte 20, and the end of the last.
-#[derive(Drop)]
+#[derive(Clone, Copy)]
 pub struct Starts {
     pub types: u32,
     pub properties: u32,

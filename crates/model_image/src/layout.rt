@@ -10,7 +10,7 @@ use csdl::Record;
 use packed::part_of;
 
 // The byte at which each table begins; the place of each table's first record, and the number of places.
-#[derive(Drop)]
+#[derive(Clone, Copy)]
 pub struct Layout {
     pub types: u32,
     pub properties: u32,

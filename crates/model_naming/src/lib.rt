@@ -1,4 +1,6 @@
 // The names of the records of a model image.
+#![tactic(auto)]
+
 mod held;
 
 ghost use Rattle.std.specs.Prelude.{◌≡◌};
@@ -11,7 +13,7 @@ use model_image::image::{counts_of, starts_of};
 use packed::part_of;
 
 // Where a name stands in the image; a size of 0 is no name.
-#[derive(Drop)]
+#[derive(Clone, Copy)]
 pub struct NamePlace {
     pub start: u32,
     pub size: u16,

@@ -1,5 +1,7 @@
 // The rules 3 to 19 of a model, each as the lowest place that breaks it: 0 for none, else the place plus 1. The tables that a rule reads are cut
 // from the image where it is asked.
+#![tactic(auto)]
+
 ghost use Rattle.std.specs.Prelude.{◌≡◌, ℕ, ◌≤◌, ◌<◌, length, get_or};
 ghost use Rattle.csdl.specs.Search.{or_else};
 ghost use Rattle.csdl.specs.Image.{model_in};

@@ -1,4 +1,6 @@
 // Packed fields and byte strings. The reader goes by shifts and masks; each stands in a small function whose contract is in / and %.
+#![tactic(auto)]
+
 ghost use Rattle.std.specs.Prelude.{◌≡◌, min, ◌+◌, ◌*◌, ◌/◌, ◌%◌, ◌^◌, ◌≤◌, ◌<◌, length, get_or, drop};
 ghost use Rattle.packed.specs.Field.{field_of, flag_of};
 ghost use Rattle.packed.specs.Bytes.{same, common_start, part};
@@ -152,7 +154,7 @@ pub fn number_at(s: &[u8], k: u16) -> u16
 }
 
 // Two fields, one behind the other.
-#[derive(Drop)]
+#[derive(Clone, Copy)]
 pub struct Two {
     pub first: u16,
     pub second: u16,

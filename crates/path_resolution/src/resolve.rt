@@ -19,7 +19,7 @@ use model_image::segments::{segment_cast, segment_type};
 use model_image::texts::segment_text;
 
 // Where a path stands: a type reference, and the segment to take.
-#[derive(Drop)]
+#[derive(Clone, Copy)]
 struct Here {
     t: u32,
     g: u16,
@@ -27,7 +27,7 @@ struct Here {
 
 // One segment resolved: whether it does, its code, and the type reference that it moves to; for a name that means nothing, the code and
 // the reference that say so.
-#[derive(Drop)]
+#[derive(Clone, Copy)]
 struct Move {
     ok: bool,
     code: u32,
@@ -35,7 +35,7 @@ struct Move {
 }
 
 // A path and the type reference at which it starts: its first segment, and how many.
-#[derive(Drop)]
+#[derive(Clone, Copy)]
 pub struct PathFrom {
     pub start: u16,
     pub first: u16,
@@ -44,7 +44,7 @@ pub struct PathFrom {
 
 // The codes of the segments (a property's number, or 32768 + type for a cast), how many segments resolve before the first that
 // does not, and the type reference at the end.
-#[derive(Drop)]
+#[derive(Clone, Copy)]
 pub struct Resolved {
     pub codes: [u32; 16],
     pub taken: u16,

@@ -1,4 +1,6 @@
 // The tests that the rules put to the steps of a path, over its codes.
+#![tactic(auto)]
+
 ghost use Rattle.std.specs.Prelude.{◌≡◌, [], ◌<◌, ◌-◌};
 ghost use Rattle.csdl.specs.Model.{model_of};
 ghost use Rattle.csdl.specs.Paths.{key_code, key_type, key_step, key_end, constraint_step, non_containment, target_step};
@@ -19,7 +21,7 @@ use type_hierarchy::steps::{complex_step, contain_step};
 // What a step is tested for: that it may not stand in a key's path before the last step, or as the last; not in a constraint's
 // path before the last; that it is a navigation property, one without containment; that it may not stand in a target path before
 // the last, or as the last.
-#[derive(Drop)]
+#[derive(Clone, Copy)]
 pub enum StepTest {
     NoKeyStep,
     NoKeyEnd,

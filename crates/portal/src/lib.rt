@@ -2,6 +2,8 @@
 // The result is one 64-bit number: a refusal is rule * 2^32 + place, and the rule is never 0; an accepted model is its number of
 // segments, an accepted instance and accepted members are 0, and a walk is results * 65536 + opened slots. outside/c/tour_model.h says the same for C.
 // Each contract has the equations of the word and of the buffer, and the promise that follows from them, clause by clause: crates/demands/specs/Demands.
+#![tactic(auto)]
+
 ghost use Rattle.std.specs.Prelude.{◌≡◌, ◌≤◌};
 ghost use Rattle.csdl.specs.Conforms.{instance_answer};
 ghost use Rattle.csdl.specs.Instance.{instance_in};

@@ -87,7 +87,7 @@ fn target_under_set(children: &[u8], bindings: &[u8], b: u16) -> bool
 }
 
 // Whether a path of a binding has a form that rule 19 refuses, and the type reference at its end.
-#[derive(Drop)]
+#[derive(Clone, Copy)]
 struct PathForm {
     fails: bool,
     end: u32,

@@ -82,7 +82,7 @@ fn constraint_codes(types: &[u8], properties: &[u8], codes: &[u32; 16], n: u16) 
 }
 
 // A path of a constraint, by the codes of all segments: whether 16b to 16d refuse it, and its last property.
-#[derive(Drop)]
+#[derive(Clone, Copy)]
 struct PathForm {
     fails: bool,
     last: u16,

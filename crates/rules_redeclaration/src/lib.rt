@@ -1,4 +1,6 @@
 // Rule 11: a name declared again on the owner, or below an ancestor's property without right.
+#![tactic(auto)]
+
 ghost use Rattle.std.specs.Prelude.{◌≡◌, [], ◌<◌, eqb};
 ghost use Rattle.type_hierarchy.specs.AncestorSets.{ancestors_of};
 ghost use Rattle.lookup.specs.Index.{Indexed};

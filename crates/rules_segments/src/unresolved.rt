@@ -66,7 +66,7 @@ fn resolve_in(
 }
 
 // A record that may hold a path of the kind, by its number.
-#[derive(Drop)]
+#[derive(Clone, Copy)]
 struct Holder {
     kind: PathKind,
     r: u16,

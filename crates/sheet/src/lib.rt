@@ -1,4 +1,6 @@
 // The sheet of an image: the bytes that `mark` prints, of which `explain` prints the first line.
+#![tactic(auto)]
+
 ghost use Rattle.std.specs.Prelude.{◌≡◌, ◌++◌, ◌≤◌, length, drop};
 ghost use Rattle.io.specs.Counts.{IsPrefixLen};
 ghost use Rattle.csdl.specs.Verdict.{model_means, model_buffer};
@@ -18,7 +20,7 @@ pub const LINE_SIZE: usize = 26;
 pub const SHEET_SIZE: usize = 21519;
 
 // The answer of the check and the length of the line that says it.
-#[derive(Drop)]
+#[derive(Clone, Copy)]
 pub struct Marked {
     pub answer: ModelAnswer,
     pub size: usize,

@@ -1,4 +1,6 @@
 // The types of a model: kinds of type, bases and ancestors (also as sets), how near each is, the owners of keys, steps through properties.
+#![tactic(auto)]
+
 pub mod ancestors;
 pub mod bases;
 pub mod key_owners;

@@ -1,3 +1,5 @@
 // The names of a type as a set of properties, found over the classes of names.
+#![tactic(auto)]
+
 pub mod members;
 pub mod wide;

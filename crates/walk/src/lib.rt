@@ -1,4 +1,6 @@
 // The walk of a path of the model through an instance.
+#![tactic(auto)]
+
 ghost use Rattle.std.specs.Prelude.{◌≡◌, false, [], ◌+◌, ◌≤◌, ◌<◌, length};
 ghost use Rattle.std.proofs.lemmas.List.Edits.{sets};
 ghost use Rattle.csdl.specs.Conforms.{instance_answer};

@@ -1,4 +1,6 @@
 // The walk of one item along the segments that are left.
+#![tactic(auto)]
+
 ghost use Rattle.std.specs.Prelude.{◌≡◌, false, ◌+◌, ◌≤◌, ◌<◌, length};
 ghost use Rattle.std.proofs.lemmas.List.Edits.{sets};
 ghost use Rattle.csdl.specs.Image.{model_in};
@@ -15,7 +17,7 @@ use packed::byte_of;
 use walk_step::{Next, item_in, next_of};
 
 // Where a walk stands: at an item before segment k, with `left` segments to take. Its results go into the buffer from byte `end` on.
-#[derive(Drop)]
+#[derive(Clone, Copy)]
 pub struct Position {
     pub k: u16,
     pub left: u16,
@@ -25,7 +27,7 @@ pub struct Position {
 }
 
 // Where the results end in the buffer, and how many slots were opened.
-#[derive(Drop)]
+#[derive(Clone, Copy)]
 pub struct Done {
     pub end: usize,
     pub opened: u16,

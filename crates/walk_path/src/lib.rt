@@ -1,4 +1,6 @@
 // The path that a walk takes, and rules 27 to 29.
+#![tactic(auto)]
+
 ghost use Rattle.std.specs.Prelude.{◌≡◌, cond, false, [], ◌<◌, eqb};
 ghost use Rattle.csdl.specs.Image.{model_in};
 ghost use Rattle.csdl.specs.Instance.{instance_of, instance_in, image20};

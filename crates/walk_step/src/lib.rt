@@ -1,4 +1,6 @@
 // One segment of a walk at one item.
+#![tactic(auto)]
+
 ghost use Rattle.std.specs.Prelude.{◌≡◌, false, []};
 ghost use Rattle.csdl.specs.Model.{model_of};
 ghost use Rattle.csdl.specs.Image.{model_in};
@@ -60,14 +62,14 @@ fn slot_named(
 }
 
 // An item at which a walk stands: its type reference and its handle, 255 and 0 for null.
-#[derive(Drop)]
+#[derive(Clone, Copy)]
 pub struct Item {
     pub t: u8,
     pub v: u32,
 }
 
 // What takes the place of an item: a run of the table of items, or one item of its own; how many slots were opened.
-#[derive(Drop)]
+#[derive(Clone, Copy)]
 pub struct Next {
     pub opened: u16,
     pub first: u16,
