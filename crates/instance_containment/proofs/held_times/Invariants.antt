@@ -1,0 +1,18 @@
+use borrow.Author.Rules.{rules}
+use Prim.Native.Nat.{ℕ, ◌-◌, ◌≤◌}
+use mathlib.Core.Path.{ap, ◌∙◌}
+use native.Mathlib.Omega.{arith}
+use mathlib.Core.Bool.{not}
+use lib.Dec.{eqb}
+use Rattle.instance_runs.specs.Tables.{Tabulates}
+use Rattle.csdl.specs.Search.{one_if}
+use Rattle.instance_containment.specs.Graph.{held_run, entry}
+use Rattle.instance_runs.proofs.Fills.{count_in, count_none, count_down, count-all}
+use Rattle.instance_containment.proofs.Bridge.{times_run}
+use Rattle.instance_containment.proofs.held_times.Given as goal
+
+abbrev pub invariant-loop-k : goal.invariant-loop-k
+invariant-loop-k l = (l.k ≤ l.c) × Tabulates (count_in (λ u. held_run (entry l.to) u) l.c l.k) 256 l.array
+
+abbrev pub decreases-loop-k : goal.decreases-loop-k
+decreases-loop-k l = l.k

@@ -1,0 +1,14 @@
+use borrow.Author.Rules.{rules}
+use Prim.Native.Nat.{◌-◌, ◌≤◌}
+use mathlib.Core.Path.{◌≡◌, sym, ◌∙◌}
+use native.Mathlib.Omega.{arith}
+use lib.ListN.{length}
+use Rattle.instance_containment.specs.Rows.{in_row}
+use Rattle.type_hierarchy.proofs.Closing.{Reached, reached_start, reached_more, reached_all}
+use Rattle.instance_containment.proofs.rows.close_rows.Given as goal
+
+abbrev pub invariant-loop-c : goal.invariant-loop-c
+invariant-loop-c l = (l.c ≤ l.initial.rows) × (l.initial.rows ≤ 256) × (length l.rows ≡ 1024) × Reached l.initial.rows l.c (in_row l.n) (in_row l.rows)
+
+abbrev pub decreases-loop-c : goal.decreases-loop-c
+decreases-loop-c l = l.initial.rows - l.c

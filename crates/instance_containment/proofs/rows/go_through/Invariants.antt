@@ -1,0 +1,14 @@
+use borrow.Author.Rules.{rules}
+use Prim.Native.Nat.{◌-◌, ◌≤◌, ◌<◌}
+use mathlib.Core.Path.{◌≡◌, sym, ◌∙◌}
+use native.Mathlib.Omega.{arith}
+use lib.ListN.{length}
+use Rattle.instance_containment.specs.Rows.{in_row}
+use Rattle.type_hierarchy.proofs.Closing.{Going, going_start, going_more, going_through}
+use Rattle.instance_containment.proofs.rows.go_through.Given as goal
+
+abbrev pub invariant-loop-v : goal.invariant-loop-v
+invariant-loop-v l = (l.v ≤ l.c) × (l.c ≤ 256) × (l.initial.rows < l.c) × (length l.rows ≡ 1024) × Going 256 l.v l.initial.rows (in_row l.n) (in_row l.rows)
+
+abbrev pub decreases-loop-v : goal.decreases-loop-v
+decreases-loop-v l = l.c - l.v

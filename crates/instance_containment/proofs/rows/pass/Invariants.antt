@@ -1,0 +1,15 @@
+use borrow.Author.Rules.{rules}
+use Prim.Native.Nat.{◌*◌, ◌-◌, ◌≤◌, ◌<◌}
+use mathlib.Core.Path.{◌≡◌, sym, ◌∙◌}
+use mathlib.Core.Bool.{true}
+use borrow.Author.Tests.{not-true, not-false}
+use lib.ListN.{length, length-set}
+use Rattle.instance_containment.specs.Rows.{in_row}
+use Rattle.instance_containment.proofs.RowLaws.{Joining, joining_start, joining_more, joined, not_joined}
+use Rattle.instance_containment.proofs.rows.pass.Given as goal
+
+abbrev pub invariant-loop-j : goal.invariant-loop-j
+invariant-loop-j l = (l.j ≤ 4) × (l.c < 256) × (l.to < 256) × (l.from ≡ 4 * l.c) × (l.initial.rows ≡ 4 * l.to) × (length l.rows ≡ 1024) × (in_row l.v l.c l.to ≡ true) × Joining l.c l.to l.v l.rows l.j
+
+abbrev pub decreases-loop-j : goal.decreases-loop-j
+decreases-loop-j l = 4 - l.j

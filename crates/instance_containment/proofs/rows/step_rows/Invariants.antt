@@ -1,0 +1,14 @@
+use borrow.Author.Rules.{rules}
+use Prim.Native.Nat.{◌-◌, ◌≤◌}
+use mathlib.Core.Path.{sym}
+use native.Mathlib.Omega.{arith}
+use Rattle.instance_containment.specs.Graph.{node_in, entry}
+use Rattle.instance_containment.specs.Rows.{Steps}
+use Rattle.instance_containment.proofs.RowLaws.{steps_from, from_start, from_more, from_end_lem}
+use Rattle.instance_containment.proofs.rows.step_rows.Given as goal
+
+abbrev pub invariant-loop-k : goal.invariant-loop-k
+invariant-loop-k l = (l.k ≤ l.c) × Steps (steps_from (node_in l.item_slots l.slot_nodes) (entry l.to) l.c l.k) l.rows
+
+abbrev pub decreases-loop-k : goal.decreases-loop-k
+decreases-loop-k l = l.k

@@ -1,0 +1,16 @@
+use Prim.Native.Nat.{◌-◌, ◌≤◌}
+use mathlib.Core.Path.{refl}
+use native.Mathlib.Omega.{arith}
+use borrow.Author.Rules.{rules}
+use lib.ListN.{length}
+use Rattle.csdl.specs.Instance.{instance_of, node_count, node_slots_in}
+use Rattle.csdl.specs.Conforms.{node_of_slot}
+use Rattle.instance_runs.specs.Tables.{Tabulates}
+use Rattle.instance_runs.proofs.Fills.{first_in, first-none, first_down, first-all, is_table}
+use Rattle.instance_runs.proofs.runs.nodes_of_slots.Given as goal
+
+abbrev pub invariant-loop-v : goal.invariant-loop-v
+invariant-loop-v l = (l.v ≤ node_count l.nodes) × (length l.nodes ≤ 1024) × Tabulates (first_in (λ u. node_slots_in l.nodes u) (node_count l.nodes) l.v) 1024 l.array
+
+abbrev pub decreases-loop-v : goal.decreases-loop-v
+decreases-loop-v l = l.v

@@ -1,0 +1,21 @@
+use Prim.Native.Nat.{◌-◌, ◌≤◌}
+use mathlib.Core.List.{[]}
+use lib.ListN.{length}
+use Rattle.csdl.specs.Model.{model_of}
+use Rattle.csdl.specs.Instance.{instance_of}
+use Rattle.csdl.specs.Conforms.{node22}
+use Rattle.csdl.proofs.Loops.{First, first}
+use borrow.Author.Rules.{rules}
+use Rattle.instance_values.proofs.rules.first_22.Goals as goal
+
+pub loop-v-init : goal.loop-v-init
+loop-v-init c = (search first, search rules, search rules)
+
+pub returns-then-node_22 : goal.returns-then-node_22
+returns-then-node_22 c = (rw (← c.node_count-n.ensures.0) (search first), search rules)
+
+pub loop-v-preserved : goal.loop-v-preserved
+loop-v-preserved c = (search first, search rules, search rules)
+
+pub returns : goal.returns
+returns c = (rw (← c.node_count-n.ensures.0) (search first), search rules)

@@ -1,0 +1,37 @@
+use Prim.Native.Nat.{◌-◌, ◌≤◌, zero-le}
+use mathlib.Core.Path.{◌≡◌, sym, ◌∙◌}
+use mathlib.Core.Bool.{true}
+use mathlib.Core.List.{[]}
+use mathlib.Core.Logic.{⊎_elim}
+use native.Mathlib.Omega.{arith}
+use lib.ListN.{length, get_or}
+use borrow.Author.Tests.{not-false}
+use Rattle.csdl.specs.Tables.{property_count}
+use Rattle.csdl.specs.Model.{model_of}
+use Rattle.csdl.specs.Instance.{instance_of}
+use Rattle.csdl.specs.Conforms.{node23}
+use Rattle.csdl.proofs.Loops.{First, first-start, first-hit, first_next, first_end}
+use Rattle.type_hierarchy.specs.Sets.{member}
+use Rattle.name_classes.specs.Classes.{name_of, Ranked}
+use Rattle.instance_values.specs.Rows.{Rows}
+use Rattle.instance_values.proofs.Slotted.{rows_start, row_made, row_kept, row_past, row_23}
+use borrow.Author.Rules.{rules}
+use Rattle.instance_values.proofs.slots.nodes_23.Reads as reads
+use Rattle.instance_values.proofs.slots.nodes_23.Lts as lts
+use Rattle.instance_image.proofs.fields.node_count.Reads as node-count-reads
+use Rattle.model_image.proofs.properties.property_count.Reads as property-count-reads
+use Rattle.instance_image.proofs.fields.node_type.Reads as node-type-reads
+use Rattle.type_hierarchy.proofs.type_sets.in_set.Reads as in-set-reads
+use Rattle.type_names.proofs.members.names_of.Reads as names-of-reads
+use Rattle.type_names.proofs.wide.with_row.Reads as with-row-reads
+use Rattle.type_hierarchy.proofs.type_sets.with_one.Reads as with-one-reads
+use Rattle.instance_image.proofs.fields.node_slots.Reads as node-slots-reads
+use Rattle.instance_values.proofs.slots.unlike_run.Reads as unlike-run-reads
+use Rattle.instance_values.proofs.slots.nodes_23.Given as goal
+
+abbrev pub invariant-loop-v : goal.invariant-loop-v
+invariant-loop-v l = First (λ u. node23 (model_of [] l.types l.properties [] [] [] [] [] l.names) (instance_of l.nodes l.slots []) u) l.n l.v × (l.n ≤ 256) × (length l.types ≤ 384) × (length l.properties ≤ 3584)
+    × Ranked (λ q. name_of l.properties l.names q) (property_count l.properties) (get_or l.index 1536 0) l.index × Rows l.types l.properties l.names l.rows l.done × (l.all ≡ property_count l.properties) × (l.all ≤ 512)
+
+abbrev pub decreases-loop-v : goal.decreases-loop-v
+decreases-loop-v l = l.n - l.v

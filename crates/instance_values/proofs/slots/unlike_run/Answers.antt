@@ -1,0 +1,44 @@
+use Prim.Native.Nat.{ℕ, ◌+◌, ◌-◌, ◌≤◌, ◌<◌}
+use mathlib.Core.Path.{◌≡◌}
+use mathlib.Core.Bool.{false}
+use mathlib.Core.Logic.{⊎_elim}
+use native.Mathlib.Omega.{arith}
+use lib.ListN.{length}
+use Rattle.type_names.specs.Wide.{wide}
+use Rattle.instance_values.proofs.Slotted.{Slotted, slotted_start, slotted_past, slotted_wrong, slotted_more, slotted_end}
+use borrow.Author.Rules.{rules}
+use Rattle.instance_values.proofs.slots.unlike_run.Goals as goal
+
+pub loop-done-init : goal.loop-done-init
+loop-done-init c = (c.requires.4, c.requires.1, slotted_start _ _ _ _ _ _ _ _, c.requires.0, c.requires.2, c.requires.3)
+
+pub in_wide-requires : goal.in_wide-requires
+in_wide-requires c = (c.slot_property-p.ensures.1, c.loop-done.invariant.3)
+
+pub in_wide-requires-then-p-n : goal.in_wide-requires-then-p-n
+in_wide-requires-then-p-n c = (c.slot_property-p.ensures.1, omega (arith, c.loop-done.invariant.2.size))
+
+pub returns-then-in_wide : goal.returns-then-in_wide
+returns-then-in_wide c = slotted_wrong _ _ _ _ _ _ _ _ _ _ c.loop-done.invariant.2 c.loop-done-test.true _ c.slot_property-p.ensures.0 c.if-p-n.true _ _ c.in_wide.ensures c.in_wide-then-p-n.ensures c.if-in_wide.true
+
+pub with_wide-next-requires : goal.with_wide-next-requires
+with_wide-next-requires c = (c.loop-done.invariant.2.size, c.slot_property-p.ensures.1)
+
+pub loop-done-preserved : goal.loop-done-preserved
+loop-done-preserved c = (
+      c.loop-done.invariant.0,
+      c.loop-done.invariant.1,
+      ⊎_elim
+          (λ w. rw w.6 (slotted_more _ _ _ _ _ _ _ _ _ _ c.loop-done.invariant.2 c.loop-done-test.true _ c.slot_property-p.ensures.0 w.0.taken _ _ w.1.ensures w.3.ensures w.4.left _ w.5.ensures.0 w.5.ensures.1))
+          (λ w. rw w.1 (slotted_past _ _ _ _ _ _ _ _ _ _ c.loop-done.invariant.2 c.loop-done-test.true _ c.slot_property-p.ensures.0 w.0.left))
+          c.if-p-n.branch,
+      c.loop-done.invariant.3,
+      c.loop-done.invariant.4,
+      c.loop-done.invariant.5,
+    )
+
+pub unlike-requires : goal.unlike-requires
+unlike-requires c = (c.loop-done.invariant.2.size, c.loop-done.invariant.3)
+
+pub returns : goal.returns
+returns c = slotted_end _ _ _ _ _ _ _ _ _ _ (omega arith) c.loop-done.invariant.2 _ c.unlike.ensures

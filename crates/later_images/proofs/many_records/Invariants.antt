@@ -1,0 +1,16 @@
+use Prim.Native.Nat.{◌-◌, ◌+◌}
+use mathlib.Core.Path.{refl, sym}
+use mathlib.Core.Bool.{true, false}
+use lib.Dec.{ltb}
+use borrow.Author.Tests.{lt-ltb, le-ltb}
+use native.Mathlib.Omega.{arith}
+use Rattle.csdl.specs.Image.{header}
+use Rattle.csdl.proofs.Loops.{Any, any-start, any-hit, any_next, any_end}
+use borrow.Author.Rules.{rules}
+use Rattle.later_images.proofs.many_records.Given as goal
+
+abbrev pub invariant-loop-k : goal.invariant-loop-k
+invariant-loop-k l = Any (λ j. ltb 1024 (header l.image (j + 1))) l.n l.k
+
+abbrev pub decreases-loop-k : goal.decreases-loop-k
+decreases-loop-k l = l.n - l.k

@@ -1,0 +1,5 @@
+use borrow.Author.Rules.{rules}
+use Rattle.lookup.proofs.names.both_types.Goals as goal
+
+pub returns : goal.returns
+returns c = cc

@@ -1,0 +1,19 @@
+use borrow.Author.Rules.{rules}
+use Prim.Native.Nat.{ℕ, ◌-◌, ◌≤◌, ◌<◌}
+use mathlib.Core.Path.{◌≡◌, sym, ◌∙◌}
+use native.Mathlib.Omega.{arith}
+use lib.ListN.{length}
+use Rattle.csdl.specs.Image.{model_in}
+use Rattle.path_resolution.specs.Coded.{Coded}
+use Rattle.model_rules.specs.Stages.{Clear}
+use Rattle.rules_segments.specs.Indexes.{IndexIn, AncestorsIn}
+use Rattle.model_rules.proofs.Order.{clear_next, judged_broken, judged_clear}
+use Rattle.model_image.proofs.Laid.{opened}
+use Rattle.model_rules.proofs.Along.{segments_last}
+use Rattle.model_check.proofs.first_among.Given as goal
+
+abbrev pub invariant-loop-stage : goal.invariant-loop-stage
+invariant-loop-stage l = (3 ≤ l.stage) × (l.stage ≤ l.initial.codes) × (l.initial.codes ≤ 20) × (length l.codes ≡ 1024) × (11 < l.initial.codes → IndexIn l.image l.index × AncestorsIn l.image l.from) × Clear (model_in l.image) l.stage × (15 ≤ l.stage → Coded (model_in l.image) l.codes)
+
+abbrev pub decreases-loop-stage : goal.decreases-loop-stage
+decreases-loop-stage l = l.initial.codes - l.stage

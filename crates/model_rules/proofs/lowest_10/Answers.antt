@@ -1,0 +1,20 @@
+use native.Mathlib.Omega.{arith}
+use Rattle.csdl.specs.Image.{model_in}
+use Rattle.csdl.specs.Model.{model_of}
+use Rattle.csdl.specs.Model.Table.{property-table}
+use Rattle.csdl.specs.Find.{of_kind, structured}
+use Rattle.csdl.specs.Properties.{property10, is_stream}
+use Rattle.model_rules.specs.Stages.{lowest_place}
+use Rattle.model_rules.proofs.Finding.{few_found}
+use Rattle.model_image.proofs.Laid.{opened}
+use Rattle.model_rules.proofs.Found.{lowest_in, few-places}
+use borrow.Author.Rules.{rules}
+use Rattle.model_rules.proofs.lowest_10.Goals as goal
+
+pub place_found-requires : goal.place_found-requires
+place_found-requires c = (few-places (opened c.requires) property-table, few_found _ c.first_10.ensures (omega (arith, c.properties_of.ensures.1)))
+
+pub returns : goal.returns
+unfolding lowest_place property10 is_stream of_kind structured model_in model_of
+returns c = let m = model_in c.args.image.now in
+    lowest_in (opened c.requires) property-table (λ k. property10 m k) (rw (c.types_of.ensures.0, c.properties_of.ensures.0) at c.first_10.ensures) c.place_found.ensures

@@ -1,0 +1,19 @@
+use Prim.Native.Nat.{◌-◌}
+use mathlib.Core.Path.{◌≡◌, sym}
+use native.Mathlib.Omega.{arith}
+use Rattle.csdl.specs.Image.{model_in}
+use Rattle.csdl.specs.Verdict.{broken_at}
+use Rattle.csdl.specs.Form.{rule5}
+use Rattle.csdl.proofs.Loops.{First, first-start, first-hit, first_next, first_end}
+use Rattle.model_image.specs.Laid.{names_in}
+use Rattle.model_image.proofs.Laid.{opened}
+use Rattle.rules_names.specs.Identifiers.{Limits}
+use Rattle.model_rules.proofs.Found.{asked, of_all}
+use borrow.Author.Rules.{rules}
+use Rattle.model_rules.proofs.lowest_5.Given as goal
+
+abbrev pub invariant-loop-place : goal.invariant-loop-place
+invariant-loop-place l = First (broken_at (model_in l.image) rule5) l.n l.place × (l.n ≡ l.at.places) × Limits (names_in l.image) l.limits
+
+abbrev pub decreases-loop-place : goal.decreases-loop-place
+decreases-loop-place l = l.n - l.place

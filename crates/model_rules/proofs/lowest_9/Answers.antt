@@ -1,0 +1,20 @@
+use native.Mathlib.Omega.{arith}
+use Rattle.csdl.specs.Image.{model_in}
+use Rattle.csdl.specs.Model.{model_of}
+use Rattle.csdl.specs.Model.Table.{type-table}
+use Rattle.csdl.specs.Find.{ancestor}
+use Rattle.csdl.specs.Types.{type9}
+use Rattle.model_rules.specs.Stages.{lowest_place}
+use Rattle.model_rules.proofs.Finding.{few_found}
+use Rattle.model_image.proofs.Laid.{opened}
+use Rattle.model_rules.proofs.Found.{lowest_in, few-places}
+use borrow.Author.Rules.{rules}
+use Rattle.model_rules.proofs.lowest_9.Goals as goal
+
+pub place_found-requires : goal.place_found-requires
+place_found-requires c = (few-places (opened c.requires) type-table, few_found _ c.first_9.ensures (omega (arith, c.types_of.ensures.1)))
+
+pub returns : goal.returns
+unfolding lowest_place type9 ancestor model_in model_of
+returns c = let m = model_in c.args.image.now in
+    lowest_in (opened c.requires) type-table (λ k. type9 m k) (rw c.types_of.ensures.0 at c.first_9.ensures) c.place_found.ensures

@@ -1,0 +1,11 @@
+use native.Mathlib.Omega.{arith}
+use lib.ListN.{length-set}
+use Rattle.name_classes.proofs.Sorting.{Shifted, shifted_start, shifted_next, shifted_end, entry-is}
+use borrow.Author.Rules.{rules}
+use Rattle.name_classes.proofs.first_properties.insert.Given as goal
+
+abbrev pub invariant-loop-k : goal.invariant-loop-k
+invariant-loop-k l = Shifted l.firsts l.at l.p l.order l.k
+
+abbrev pub decreases-loop-k : goal.decreases-loop-k
+decreases-loop-k l = l.k

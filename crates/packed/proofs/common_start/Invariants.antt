@@ -1,0 +1,14 @@
+use Prim.Native.Nat.{min, ◌+◌, ◌-◌, ◌≤◌}
+use mathlib.Core.Path.{◌≡◌}
+use native.Mathlib.Omega.{arith}
+use lib.ListN.{length, drop}
+use Rattle.packed.specs.Bytes.{common_start}
+use Rattle.packed.proofs.Laws.{common_step, common_differ, common_end}
+use borrow.Author.Rules.{rules}
+use Rattle.packed.proofs.common_start.Given as goal
+
+abbrev pub invariant-loop-i : goal.invariant-loop-i
+invariant-loop-i l = (l.i ≤ l.n) × (l.n ≡ min (length l.a) (length l.b)) × (common_start l.a l.b ≡ l.i + common_start (drop l.i l.a) (drop l.i l.b))
+
+abbrev pub decreases-loop-i : goal.decreases-loop-i
+decreases-loop-i l = l.n - l.i

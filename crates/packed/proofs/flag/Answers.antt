@@ -1,0 +1,7 @@
+use Rattle.packed.specs.Field.{flag_of}
+use borrow.Author.Rules.{rules}
+use Rattle.packed.proofs.flag.Goals as goal
+
+pub returns : goal.returns
+unfolding flag_of
+returns c = rw c.field.ensures.value

@@ -1,0 +1,23 @@
+use mathlib.Core.Path.{refl}
+use Rattle.csdl.specs.Model.{model_of}
+use Rattle.csdl.specs.Find.{structured, ancestor_or_self, ancestor, find, own, declares}
+use Rattle.csdl.specs.Path.{segment_at, resolves_at, step_at, moves_to}
+use borrow.Author.Rules.{rules}
+use Rattle.path_resolution.proofs.resolve.move_at.Goals as goal
+
+pub cast_resolves-ok-requires : goal.cast_resolves-ok-requires
+cast_resolves-ok-requires c = (c.requires.0, c.requires.3)
+
+pub returns-then-segment_cast : goal.returns-then-segment_cast
+unfolding model_of segment_at resolves_at step_at moves_to structured ancestor_or_self ancestor
+returns-then-segment_cast c = let all = rw (← c.segment_cast.ensures, c.if-segment_cast.true, ← c.segment_type-c.ensures.0) (c.cast_resolves-ok.ensures, (refl, refl)) in record { ok_value = all.0; code_value = all.1.0; to_value = all.1.1 }
+
+pub find-found-requires : goal.find-found-requires
+find-found-requires c = c.requires
+
+pub named_move-requires : goal.named_move-requires
+named_move-requires c = c.requires.0
+
+pub returns : goal.returns
+unfolding model_of segment_at resolves_at step_at moves_to structured find own declares
+returns c = let all = rw (← c.segment_cast.ensures, c.if-segment_cast.false, ← c.segment_text.ensures, ← c.find-found.ensures.0) c.named_move.ensures in record { ok_value = all.0; code_value = all.1.0; to_value = all.1.1 }

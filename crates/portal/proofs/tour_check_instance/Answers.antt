@@ -1,0 +1,6 @@
+use Rattle.demands.proofs.Kept.{instance_owed}
+use borrow.Author.Rules.{rules}
+use Rattle.portal.proofs.tour_check_instance.Goals as goal
+
+pub returns : goal.returns
+returns c = let all = instance_owed c.args.model.now c.args.instance.now (rw (← c.check_instance.ensures) c.instance_word.ensures) in record { value = all.0; instance_promise = all.1 }

@@ -1,0 +1,22 @@
+use Prim.Native.Nat.{◌-◌}
+use mathlib.Core.List.{[]}
+use native.Mathlib.Omega.{arith}
+use Rattle.csdl.specs.Model.{model_of}
+use Rattle.csdl.proofs.Loops.{Any, any-start, any-hit, any_next, any_end}
+use Rattle.rules_bindings.specs.Bindings.{again_bound, binding_again}
+use borrow.Author.Rules.{rules}
+use Rattle.rules_bindings.proofs.bindings.binding_again.Goals as goal
+
+pub loop-j-init : goal.loop-j-init
+loop-j-init c = any-start _ _
+
+pub returns-then-again_bound : goal.returns-then-again_bound
+unfolding binding_again
+returns-then-again_bound c = any-hit _ _ _ _ c.loop-j.invariant c.loop-j-test.true c.again_bound.ensures c.if-again_bound.true
+
+pub loop-j-preserved : goal.loop-j-preserved
+loop-j-preserved c = any_next _ _ _ _ c.loop-j.invariant c.loop-j-test.true c.again_bound.ensures c.if-again_bound.false
+
+pub returns : goal.returns
+unfolding binding_again
+returns c = any_end _ _ _ c.loop-j.invariant (omega arith)

@@ -1,0 +1,14 @@
+use Prim.Native.Nat.{◌-◌}
+use mathlib.Core.List.{[]}
+use native.Mathlib.Omega.{arith}
+use Rattle.csdl.specs.Model.{model_of}
+use Rattle.csdl.proofs.Loops.{Any, any-start, any-hit, any_next, any_end}
+use Rattle.rules_bindings.specs.Bindings.{again_bound, binding_again}
+use borrow.Author.Rules.{rules}
+use Rattle.rules_bindings.proofs.bindings.binding_again.Given as goal
+
+abbrev pub invariant-loop-j : goal.invariant-loop-j
+invariant-loop-j l = Any (λ i. again_bound (model_of [] [] [] [] [] [] l.bindings [] []) l.index l.codes i l.b) l.b l.j
+
+abbrev pub decreases-loop-j : goal.decreases-loop-j
+decreases-loop-j l = l.b - l.j

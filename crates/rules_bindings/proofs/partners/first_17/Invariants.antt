@@ -1,0 +1,14 @@
+use borrow.Author.Rules.{rules}
+use Prim.Native.Nat.{◌-◌}
+use mathlib.Core.List.{[]}
+use Rattle.csdl.specs.Model.{model_of}
+use Rattle.rules_bindings.specs.Partners.{partner_coded}
+use Rattle.csdl.proofs.Loops.{First, first-start, first-hit, first_next, first_end}
+use native.Mathlib.Omega.{arith}
+use Rattle.rules_bindings.proofs.partners.first_17.Given as goal
+
+abbrev pub invariant-loop-p : goal.invariant-loop-p
+invariant-loop-p l = First (λ l.p. partner_coded (model_of [] l.types l.properties [] [] [] [] [] []) l.codes l.p) l.n l.p
+
+abbrev pub decreases-loop-p : goal.decreases-loop-p
+decreases-loop-p l = l.n - l.p

@@ -1,0 +1,17 @@
+use Prim.Native.Nat.{◌-◌, ◌≤◌}
+use mathlib.Core.Path.{◌∙◌, ap}
+use mathlib.Core.List.{[]}
+use native.Mathlib.Omega.{arith}
+use borrow.Author.Tests.{not-true, not-false}
+use Rattle.csdl.specs.Search.{any_from}
+use Rattle.csdl.specs.Model.{model_of}
+use Rattle.csdl.proofs.Loops.{Any, any-start, any-hit, any_next, any_end}
+use Rattle.rules_bindings.specs.Partners.{other_contains, shared_containment}
+use borrow.Author.Rules.{rules}
+use Rattle.rules_bindings.proofs.partners.shared_containment.Given as goal
+
+abbrev pub invariant-loop-x : goal.invariant-loop-x
+invariant-loop-x l = Any (λ k. other_contains (model_of [] l.types l.properties [] [] [] [] [] []) l.codes l.p k) l.n l.x × (l.n ≤ 512)
+
+abbrev pub decreases-loop-x : goal.decreases-loop-x
+decreases-loop-x l = l.n - l.x

@@ -1,0 +1,22 @@
+use borrow.Author.Rules.{rules}
+use Prim.Native.Nat.{◌-◌}
+use mathlib.Core.List.{[]}
+use Rattle.csdl.specs.Model.{model_of}
+use Rattle.csdl.specs.Form.{child7b}
+use Rattle.rules_names.specs.Repeats.{same_child}
+use Rattle.csdl.proofs.Loops.{Any, any}
+use Rattle.rules_names.proofs.repeats.child_7.Goals as goal
+
+pub loop-j-init : goal.loop-j-init
+loop-j-init c = search any
+
+pub returns-then-same_child : goal.returns-then-same_child
+unfolding child7b
+returns-then-same_child c = search any
+
+pub loop-j-preserved : goal.loop-j-preserved
+loop-j-preserved c = search any
+
+pub returns : goal.returns
+unfolding child7b
+returns c = search any

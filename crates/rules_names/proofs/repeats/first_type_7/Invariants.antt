@@ -1,0 +1,18 @@
+use borrow.Author.Rules.{rules}
+use Prim.Native.Nat.{◌-◌, ◌≤◌}
+use mathlib.Core.Path.{◌≡◌, refl, sym}
+use mathlib.Core.List.{[]}
+use lib.ListN.{length, length-set}
+use native.Mathlib.Omega.{arith}
+use Rattle.csdl.specs.Model.{model_of}
+use Rattle.csdl.specs.Form.{type7a}
+use Rattle.csdl.proofs.Loops.{First, first-start, first-hit, first_next, first_end}
+use Rattle.rules_names.specs.Digests.{type_fingerprint, Fingerprinted}
+use Rattle.rules_names.proofs.Fingerprints.{fingerprinted_none, fingerprinted_more}
+use Rattle.rules_names.proofs.repeats.first_type_7.Given as goal
+
+abbrev pub invariant-loop-t : goal.invariant-loop-t
+invariant-loop-t l = (l.n ≤ 64) × (length l.fingerprints ≡ 64) × Fingerprinted (λ v. type_fingerprint (model_of [] l.types [] [] [] [] [] [] l.names) v) l.t l.fingerprints × First (λ v. type7a (model_of [] l.types [] [] [] [] [] [] l.names) v) l.n l.t
+
+abbrev pub decreases-loop-t : goal.decreases-loop-t
+decreases-loop-t l = l.n - l.t

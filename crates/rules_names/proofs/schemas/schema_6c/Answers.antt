@@ -1,0 +1,19 @@
+use borrow.Author.Rules.{rules}
+use Prim.Native.Nat.{◌-◌}
+use mathlib.Core.List.{[]}
+use Rattle.csdl.specs.Model.{model_of}
+use Rattle.csdl.specs.Form.{shares_name}
+use Rattle.csdl.proofs.Loops.{Any, any}
+use Rattle.rules_names.proofs.schemas.schema_6c.Goals as goal
+
+pub loop-j-init : goal.loop-j-init
+loop-j-init c = search any
+
+pub returns-then-shares_name : goal.returns-then-shares_name
+returns-then-shares_name c = search any
+
+pub loop-j-preserved : goal.loop-j-preserved
+loop-j-preserved c = search any
+
+pub returns : goal.returns
+returns c = search any

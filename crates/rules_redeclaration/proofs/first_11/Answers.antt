@@ -1,0 +1,20 @@
+use borrow.Author.Rules.{rules}
+use Prim.Native.Nat.{◌-◌}
+use mathlib.Core.List.{[]}
+use Rattle.csdl.specs.Model.{model_of}
+use Rattle.csdl.specs.Properties.{property11}
+use Rattle.csdl.proofs.Loops.{First, first-start, first-hit, first_next, first_end}
+use native.Mathlib.Omega.{arith}
+use Rattle.rules_redeclaration.proofs.first_11.Goals as goal
+
+pub loop-p-init : goal.loop-p-init
+loop-p-init c = first-start _ _
+
+pub returns-then-property_11 : goal.returns-then-property_11
+returns-then-property_11 c = rw (← c.property_count-n.ensures.0) (first-hit _ _ _ _ c.loop-p.invariant c.loop-p-test.true c.property_11.ensures c.if-property_11.true)
+
+pub loop-p-preserved : goal.loop-p-preserved
+loop-p-preserved c = first_next _ _ _ _ c.loop-p.invariant c.loop-p-test.true c.property_11.ensures c.if-property_11.false
+
+pub returns : goal.returns
+returns c = rw (← c.property_count-n.ensures.0) (first_end _ _ _ c.loop-p.invariant (omega arith))

@@ -1,0 +1,15 @@
+use Prim.Native.Nat.{◌-◌, ◌≤◌, ◌<◌}
+use mathlib.Core.Path.{◌≡◌}
+use native.Mathlib.Omega.{arith}
+use lib.ListN.{length, length-set}
+use Rattle.type_hierarchy.specs.Sets.{step_of}
+use Rattle.type_hierarchy.proofs.Closing.{Going, going_start, going_through}
+use Rattle.rules_required_cycle.proofs.Closing.{row_more}
+use borrow.Author.Rules.{rules}
+use Rattle.rules_required_cycle.proofs.cycles.go_through.Given as goal
+
+abbrev pub invariant-loop-a : goal.invariant-loop-a
+invariant-loop-a l = (l.a ≤ l.c) × (l.c ≤ 64) × (l.initial.rows < l.c) × (length l.rows ≡ 64) × (length l.rows ≡ length l.n) × Going 64 l.a l.initial.rows (step_of l.n) (step_of l.rows)
+
+abbrev pub decreases-loop-a : goal.decreases-loop-a
+decreases-loop-a l = l.c - l.a

@@ -1,0 +1,15 @@
+use borrow.Author.Rules.{rules}
+use Prim.Native.Nat.{◌-◌}
+use mathlib.Core.List.{[]}
+use Rattle.csdl.specs.Model.{model_of}
+use Rattle.csdl.specs.Properties.{type12}
+use Rattle.rules_required_cycle.proofs.Steps.{asked}
+use Rattle.csdl.proofs.Loops.{First, first-start, first-hit, first_next, first_end}
+use native.Mathlib.Omega.{arith}
+use Rattle.rules_required_cycle.proofs.required.first_12.Given as goal
+
+abbrev pub invariant-loop-t : goal.invariant-loop-t
+invariant-loop-t l = First (λ l.t. type12 (model_of [] l.types l.properties [] [] [] [] [] []) l.t) l.n l.t
+
+abbrev pub decreases-loop-t : goal.decreases-loop-t
+decreases-loop-t l = l.n - l.t

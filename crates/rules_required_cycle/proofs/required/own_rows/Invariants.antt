@@ -1,0 +1,16 @@
+use Prim.Native.Nat.{◌-◌, ◌≤◌}
+use mathlib.Core.Path.{◌≡◌}
+use mathlib.Core.List.{[]}
+use native.Mathlib.Omega.{arith}
+use lib.ListN.{length, length-set}
+use Rattle.csdl.specs.Model.{model_of}
+use Rattle.rules_required_cycle.specs.Steps.{Owned}
+use Rattle.rules_required_cycle.proofs.Steps.{owned_start, owned_more}
+use borrow.Author.Rules.{rules}
+use Rattle.rules_required_cycle.proofs.required.own_rows.Given as goal
+
+abbrev pub invariant-loop-p : goal.invariant-loop-p
+invariant-loop-p l = (length l.types ≤ 384) × (l.p ≤ l.n) × (l.n ≤ 512) × (length l.rows ≡ 64) × Owned (model_of [] l.types l.properties [] [] [] [] [] []) l.p l.rows
+
+abbrev pub decreases-loop-p : goal.decreases-loop-p
+decreases-loop-p l = l.n - l.p

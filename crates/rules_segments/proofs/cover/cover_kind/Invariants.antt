@@ -1,0 +1,18 @@
+use Prim.Native.Nat.{◌-◌, ◌≤◌}
+use mathlib.Core.Path.{◌≡◌}
+use mathlib.Core.List.{[]}
+use native.Mathlib.Omega.{arith}
+use borrow.Author.Rules.{rules}
+use lib.ListN.{length}
+use Rattle.csdl.specs.Model.{model_of, in_run}
+use Rattle.csdl.specs.Path.{path_of, holders, kind_paths_with}
+use Rattle.csdl.proofs.Settle.{count-le}
+use Rattle.rules_segments.specs.Cover.{inside}
+use Rattle.rules_segments.proofs.Covering.{Tallied, tallied_start, tallied_more, tallied_small, added}
+use Rattle.rules_segments.proofs.cover.cover_kind.Given as goal
+
+abbrev pub invariant-loop-r : goal.invariant-loop-r
+invariant-loop-r l = (l.r ≤ l.initial.cover) × (l.initial.cover ≤ 512) × (length l.cover ≡ length l.n) × Tallied (λ k g. in_run (path_of (model_of [] [] l.properties l.keys l.constraints [] l.bindings [] []) l.kind k) g) l.n l.cover l.r × (l.initial.cover ≡ holders (model_of [] [] l.properties l.keys l.constraints [] l.bindings [] []) l.kind)
+
+abbrev pub decreases-loop-r : goal.decreases-loop-r
+decreases-loop-r l = l.initial.cover - l.r

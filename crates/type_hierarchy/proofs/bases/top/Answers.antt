@@ -1,0 +1,8 @@
+use Rattle.csdl.specs.Model.{model_of}
+use Rattle.csdl.specs.Find.{top}
+use borrow.Author.Rules.{rules}
+use Rattle.type_hierarchy.proofs.bases.top.Goals as goal
+
+pub returns : goal.returns
+unfolding model_of top
+returns c = rw (← c.type_count.ensures.0) c.topmost.ensures

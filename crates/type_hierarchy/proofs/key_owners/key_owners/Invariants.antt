@@ -1,0 +1,14 @@
+use Prim.Native.Nat.{◌-◌, ◌≤◌}
+use mathlib.Core.Path.{◌≡◌}
+use native.Mathlib.Omega.{arith}
+use Rattle.type_hierarchy.specs.Sets.{Members}
+use Rattle.type_hierarchy.specs.KeyOwners.{owns_key}
+use Rattle.type_hierarchy.proofs.Owners.{owners_none, owners_more}
+use borrow.Author.Rules.{rules}
+use Rattle.type_hierarchy.proofs.key_owners.key_owners.Given as goal
+
+abbrev pub invariant-loop-k : goal.invariant-loop-k
+invariant-loop-k l = (l.k ≤ l.n) × (l.n ≤ 128) × Members 64 l.owners (λ t. owns_key l.keys l.k t)
+
+abbrev pub decreases-loop-k : goal.decreases-loop-k
+decreases-loop-k l = l.n - l.k

@@ -1,0 +1,12 @@
+use borrow.Author.Tests.{eq-eqb, ne_eqb}
+use borrow.Author.Rules.{rules}
+use Rattle.walk_path.proofs.one_of_two.Goals as goal
+
+pub returns-then-path-eq0 : goal.returns-then-path-eq0
+returns-then-path-eq0 c = rw (eq-eqb _ _ c.if-path-eq0.true) c.if_present.ensures
+
+pub returns-then-path-eq1 : goal.returns-then-path-eq1
+returns-then-path-eq1 c = rw (ne_eqb _ _ c.if-path-eq0.false, eq-eqb _ _ c.if-path-eq1.true) c.if_present-then-path-eq1.ensures
+
+pub returns : goal.returns
+returns c = rw (ne_eqb _ _ c.if-path-eq0.false, ne_eqb _ _ c.if-path-eq1.false)
