@@ -6,6 +6,10 @@ use Rattle.packed.proofs.Laws.{field_more, field_lt}
 use borrow.Author.Rules.{rules}
 use Rattle.packed.proofs.long_field.Goals as goal
 
+pub loop-done-init : goal.loop-done-init
+unfolding field_of
+loop-done-init c = search rules
+
 pub loop-done-preserved : goal.loop-done-preserved
 loop-done-preserved c = let m = 32 - c.in_byte-room.result - c.least-n.result in
     let e : c.joined-r.result ≡ field_of c.args.s.now c.args.off (c.loop-done.done + c.least-n.result) =
@@ -15,6 +19,6 @@ loop-done-preserved c = let m = 32 - c.in_byte-room.result - c.least-n.result in
 
 pub returns : goal.returns
 returns c = let e : c.loop-done.done ≡ c.args.width = omega arith in record {
-      value = rw (← e) c.loop-done.invariant.1;
-      upper_bound = rw (← e) c.loop-done.invariant.2;
-    }
+  value = rw (← e) c.loop-done.invariant.1;
+  upper_bound = rw (← e) c.loop-done.invariant.2;
+}

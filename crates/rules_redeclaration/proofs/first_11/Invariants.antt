@@ -8,7 +8,7 @@ use native.Mathlib.Omega.{arith}
 use Rattle.rules_redeclaration.proofs.first_11.Given as goal
 
 abbrev pub invariant-loop-p : goal.invariant-loop-p
-invariant-loop-p l = First (λ l.p. property11 (model_of [] l.types l.properties [] [] [] [] [] l.names) l.p) l.n l.p
+invariant-loop-p l = First (λ p. property11 (model_of [] l.types l.properties [] [] [] [] [] l.names) p) l.n l.p
 
 abbrev pub decreases-loop-p : goal.decreases-loop-p
 decreases-loop-p l = l.n - l.p

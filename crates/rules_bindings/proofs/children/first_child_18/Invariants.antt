@@ -8,7 +8,7 @@ use native.Mathlib.Omega.{arith}
 use Rattle.rules_bindings.proofs.children.first_child_18.Given as goal
 
 abbrev pub invariant-loop-h : goal.invariant-loop-h
-invariant-loop-h l = First (λ l.h. child18 (model_of [] l.types [] l.keys [] l.children [] [] []) l.h) l.n l.h
+invariant-loop-h l = First (λ h. child18 (model_of [] l.types [] l.keys [] l.children [] [] []) h) l.n l.h
 
 abbrev pub decreases-loop-h : goal.decreases-loop-h
 decreases-loop-h l = l.n - l.h

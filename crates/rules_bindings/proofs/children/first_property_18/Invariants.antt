@@ -8,7 +8,7 @@ use native.Mathlib.Omega.{arith}
 use Rattle.rules_bindings.proofs.children.first_property_18.Given as goal
 
 abbrev pub invariant-loop-p : goal.invariant-loop-p
-invariant-loop-p l = First (λ l.p. property18a (model_of [] l.types l.properties l.keys [] [] [] [] []) l.p) l.n l.p
+invariant-loop-p l = First (λ p. property18a (model_of [] l.types l.properties l.keys [] [] [] [] []) p) l.n l.p
 
 abbrev pub decreases-loop-p : goal.decreases-loop-p
 decreases-loop-p l = l.n - l.p

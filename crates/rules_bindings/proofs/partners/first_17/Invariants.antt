@@ -8,7 +8,7 @@ use native.Mathlib.Omega.{arith}
 use Rattle.rules_bindings.proofs.partners.first_17.Given as goal
 
 abbrev pub invariant-loop-p : goal.invariant-loop-p
-invariant-loop-p l = First (λ l.p. partner_coded (model_of [] l.types l.properties [] [] [] [] [] []) l.codes l.p) l.n l.p
+invariant-loop-p l = First (λ p. partner_coded (model_of [] l.types l.properties [] [] [] [] [] []) l.codes p) l.n l.p
 
 abbrev pub decreases-loop-p : goal.decreases-loop-p
 decreases-loop-p l = l.n - l.p

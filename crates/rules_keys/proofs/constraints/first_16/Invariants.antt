@@ -8,7 +8,7 @@ use native.Mathlib.Omega.{arith}
 use Rattle.rules_keys.proofs.constraints.first_16.Given as goal
 
 abbrev pub invariant-loop-c : goal.invariant-loop-c
-invariant-loop-c l = First (λ l.c. constraint_coded (model_of [] l.types l.properties [] l.constraints [] [] [] []) l.codes l.c) l.n l.c
+invariant-loop-c l = First (λ c. constraint_coded (model_of [] l.types l.properties [] l.constraints [] [] [] []) l.codes c) l.n l.c
 
 abbrev pub decreases-loop-c : goal.decreases-loop-c
 decreases-loop-c l = l.n - l.c

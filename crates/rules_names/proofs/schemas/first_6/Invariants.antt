@@ -8,7 +8,7 @@ use native.Mathlib.Omega.{arith}
 use Rattle.rules_names.proofs.schemas.first_6.Given as goal
 
 abbrev pub invariant-loop-i : goal.invariant-loop-i
-invariant-loop-i l = First (λ l.i. schema6 (model_of l.schemas [] [] [] [] [] [] [] l.names) l.i) l.n l.i
+invariant-loop-i l = First (λ i. schema6 (model_of l.schemas [] [] [] [] [] [] [] l.names) i) l.n l.i
 
 abbrev pub decreases-loop-i : goal.decreases-loop-i
 decreases-loop-i l = l.n - l.i

@@ -9,7 +9,7 @@ use native.Mathlib.Omega.{arith}
 use Rattle.rules_required_cycle.proofs.required.first_12.Given as goal
 
 abbrev pub invariant-loop-t : goal.invariant-loop-t
-invariant-loop-t l = First (λ l.t. type12 (model_of [] l.types l.properties [] [] [] [] [] []) l.t) l.n l.t
+invariant-loop-t l = First (λ t. type12 (model_of [] l.types l.properties [] [] [] [] [] []) t) l.n l.t
 
 abbrev pub decreases-loop-t : goal.decreases-loop-t
 decreases-loop-t l = l.n - l.t

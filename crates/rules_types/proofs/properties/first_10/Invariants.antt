@@ -8,7 +8,7 @@ use native.Mathlib.Omega.{arith}
 use Rattle.rules_types.proofs.properties.first_10.Given as goal
 
 abbrev pub invariant-loop-p : goal.invariant-loop-p
-invariant-loop-p l = First (λ l.p. property10 (model_of [] l.types l.properties [] [] [] [] [] []) l.p) l.n l.p
+invariant-loop-p l = First (λ p. property10 (model_of [] l.types l.properties [] [] [] [] [] []) p) l.n l.p
 
 abbrev pub decreases-loop-p : goal.decreases-loop-p
 decreases-loop-p l = l.n - l.p

@@ -8,7 +8,7 @@ use native.Mathlib.Omega.{arith}
 use Rattle.rules_types.proofs.types.first_8.Given as goal
 
 abbrev pub invariant-loop-t : goal.invariant-loop-t
-invariant-loop-t l = First (λ l.t. type8 (model_of [] l.types [] [] [] [] [] [] []) l.t) l.n l.t
+invariant-loop-t l = First (λ t. type8 (model_of [] l.types [] [] [] [] [] [] []) t) l.n l.t
 
 abbrev pub decreases-loop-t : goal.decreases-loop-t
 decreases-loop-t l = l.n - l.t
