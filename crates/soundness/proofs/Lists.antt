@@ -44,6 +44,7 @@ pub all_head : {A : Type 0} {P : A → Type 0} {x : A} {l : List A} → All P (x
 all_head (both p h) = p
 
 pub all-member : {A : Type 0} {P : A → Type 0} {x : A} {l : List A} → All P l → Memᴰ x l → P x
+all-member {A = A} {P = P} none x4 = elim x4 [ ]
 all-member {P = P} (both p h) (Memᴰ.head e) = subst P (sym e) p
 all-member (both p h) (Memᴰ.tail d) = all-member h d
 
@@ -118,10 +119,13 @@ but_sum f y none = refl
 but_sum f y (both {x} p h) = rw (ne_eqb x y (λ e. p (sym e)), but_sum f y h)
 
 -- Numbers below n, none twice, add up to no more than all of them.
-pub sum_bound : (f : ℕ → ℕ) (n : ℕ) {l : List ℕ} → All (λ x. x < n) l → Distinct l → sum f l ≤ sum_from f 0 n
+bound_sum : (n : ℕ) (f : ℕ → ℕ) {l : List ℕ} → All (λ x. x < n) l → Distinct l → sum f l ≤ sum_from f 0 n
 unfolding sum Distinct
-sum_bound f n none d = zero-le
-sum_bound f n (both {x} p h) d = omega (arith, but_sum f x d.0, sum_bound (but f x) n h d.1, but_one f x 0 n zero-le (omega arith))
+bound_sum n f none d = zero-le
+bound_sum n f (both {x} p h) d = omega (arith, but_sum f x d.0, bound_sum n (but f x) h d.1, but_one f x 0 n zero-le (omega arith))
+
+pub sum_bound : (f : ℕ → ℕ) (n : ℕ) {l : List ℕ} → All (λ x. x < n) l → Distinct l → sum f l ≤ sum_from f 0 n
+sum_bound f n h d = bound_sum n f h d
 
 -- Two lists with the same numbers, each as often: every sum over them agrees.
 abbrev pub Alike : List ℕ → List ℕ → Type 0
