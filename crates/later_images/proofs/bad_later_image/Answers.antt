@@ -1,5 +1,4 @@
 use Rattle.csdl.specs.Later.{later_image1}
-use borrow.Author.Rules.{rules}
 use Rattle.later_images.proofs.bad_later_image.Goals as goal
 
 pub returns : goal.returns

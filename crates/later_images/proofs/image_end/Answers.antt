@@ -1,4 +1,3 @@
-use borrow.Author.Rules.{rules}
 use Rattle.later_images.proofs.image_end.Goals as goal
 
 pub returns : goal.returns

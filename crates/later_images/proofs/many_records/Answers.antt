@@ -1,12 +1,8 @@
-use Prim.Native.Nat.{◌-◌, ◌+◌}
 use mathlib.Core.Path.{refl, sym}
 use mathlib.Core.Bool.{true, false}
-use lib.Dec.{ltb}
 use borrow.Author.Tests.{lt-ltb, le-ltb}
 use native.Mathlib.Omega.{arith}
-use Rattle.csdl.specs.Image.{header}
-use Rattle.csdl.proofs.Loops.{Any, any-start, any-hit, any_next, any_end}
-use borrow.Author.Rules.{rules}
+use Rattle.csdl.proofs.Loops.{any-start, any-hit, any_next, any_end}
 use Rattle.later_images.proofs.many_records.Goals as goal
 
 pub loop-k-init : goal.loop-k-init

@@ -1,12 +1,7 @@
 use Prim.Native.Nat.{◌-◌, ◌+◌}
-use mathlib.Core.Path.{refl, sym}
-use mathlib.Core.Bool.{true, false}
 use lib.Dec.{ltb}
-use borrow.Author.Tests.{lt-ltb, le-ltb}
-use native.Mathlib.Omega.{arith}
 use Rattle.csdl.specs.Image.{header}
-use Rattle.csdl.proofs.Loops.{Any, any-start, any-hit, any_next, any_end}
-use borrow.Author.Rules.{rules}
+use Rattle.csdl.proofs.Loops.{Any}
 use Rattle.later_images.proofs.many_records.Given as goal
 
 abbrev pub invariant-loop-k : goal.invariant-loop-k

@@ -1,7 +1,6 @@
 use native.Mathlib.Omega.{arith}
 use mathlib.Core.Path.{◌≡◌}
 use Rattle.csdl.specs.Later.{later_names_from}
-use borrow.Author.Rules.{rules}
 use Rattle.later_images.proofs.names_of.Goals as goal
 
 pub overflow_sub-image_end : goal.overflow_sub-image_end

@@ -1,10 +1,7 @@
 use Prim.Native.Nat.{◌-◌, ◌+◌, ◌*◌, ◌≤◌}
-use mathlib.Core.Path.{◌≡◌, sym, ◌∙◌}
-use native.Mathlib.Omega.{arith}
+use mathlib.Core.Path.{◌≡◌}
 use lib.ListN.{length}
 use Rattle.csdl.specs.Later.{table_from}
-use Rattle.csdl.proofs.Later.{table_first, table_next}
-use borrow.Author.Rules.{rules}
 use Rattle.later_images.proofs.table_from.Given as goal
 
 abbrev pub invariant-loop-i : goal.invariant-loop-i

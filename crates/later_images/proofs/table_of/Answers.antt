@@ -1,6 +1,5 @@
 use native.Mathlib.Omega.{arith}
 use Rattle.csdl.proofs.Later.{table_next}
-use borrow.Author.Rules.{rules}
 use Rattle.later_images.proofs.table_of.Goals as goal
 
 pub overflow_sub-table_from : goal.overflow_sub-table_from

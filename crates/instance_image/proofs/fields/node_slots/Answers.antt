@@ -1,7 +1,6 @@
 use Prim.Native.Nat.{◌+◌, ◌*◌}
 use mathlib.Core.Path.{◌≡◌}
 use native.Mathlib.Omega.{arith}
-use borrow.Author.Rules.{rules}
 use Rattle.instance_image.proofs.fields.node_slots.Goals as goal
 
 pub returns : goal.returns

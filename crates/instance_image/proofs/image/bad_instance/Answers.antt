@@ -1,4 +1,3 @@
-use borrow.Author.Rules.{rules}
 use Rattle.csdl.specs.Instance.{image20}
 use Rattle.instance_image.proofs.image.bad_instance.Goals as goal
 

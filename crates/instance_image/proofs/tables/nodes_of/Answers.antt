@@ -2,7 +2,6 @@ use Prim.Native.Nat.{◌*◌}
 use mathlib.Core.Path.{sym, ◌∙◌}
 use Rattle.packed.proofs.Laws.{part-whole}
 use Rattle.csdl.specs.Image.{header}
-use borrow.Author.Rules.{rules}
 use Rattle.instance_image.proofs.tables.nodes_of.Goals as goal
 
 pub returns : goal.returns

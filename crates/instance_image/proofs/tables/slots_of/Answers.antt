@@ -3,7 +3,6 @@ use mathlib.Core.Path.{sym, ◌∙◌}
 use Rattle.packed.proofs.Laws.{part-whole}
 use Rattle.csdl.specs.Instance.{slots_from}
 use Rattle.csdl.specs.Image.{header}
-use borrow.Author.Rules.{rules}
 use Rattle.instance_image.proofs.tables.slots_of.Goals as goal
 
 pub returns : goal.returns
