@@ -8,8 +8,8 @@ use Rattle.rules_redeclaration.proofs.clashes.Goals as goal
 
 pub returns-then-not-in_set : goal.returns-then-not-in_set
 unfolding model_of clashing
-returns-then-not-in_set c = rw (← c.property_owner.ensures.0, ← c.in_set.ensures, not-true c.in_set.result c.if-not-in_set.true)
+returns-then-not-in_set c = rw (← c.property_owner.ensures.0, ← c.in_set.ensures, c.if-not-in_set.true)
 
 pub returns : goal.returns
 unfolding model_of clashing rules.redeclares ancestor
-returns c = rw (← c.property_owner.ensures.0, ← c.in_set.ensures, not-false c.in_set.result c.if-not-in_set.false, c.redeclares.ensures)
+returns c = rw (← c.property_owner.ensures.0, ← c.in_set.ensures, c.if-not-in_set.false, c.redeclares.ensures)

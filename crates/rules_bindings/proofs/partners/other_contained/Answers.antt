@@ -14,26 +14,26 @@ use Rattle.rules_bindings.proofs.partners.other_contained.Goals as goal
 
 pub returns-then-not-other_with_partner : goal.returns-then-not-other_with_partner
 unfolding model_of other_contains
-returns-then-not-other_with_partner c = rw (← c.other_with_partner.ensures, not-true c.other_with_partner.result c.if-not-other_with_partner.true)
+returns-then-not-other_with_partner c = rw (← c.other_with_partner.ensures, c.if-not-other_with_partner.true)
 
 pub returns-then-not-in_set : goal.returns-then-not-in_set
 unfolding model_of other_contains ancestor_or_self ancestor
 returns-then-not-in_set c = let m = model_of [] c.args.types.now [] [] [] [] [] [] [] in
     let e : ancestor_or_self m (property_owner c.args.properties.now c.args.q) (property_owner c.args.properties.now c.args.p) ≡ false =
-    sym (c.requires.1 (property_owner c.args.properties.now c.args.q) (field_lt c.args.properties.now (56 * c.args.q) 6)) ∙ rw (← c.property_owner.ensures.0) (sym c.in_set.ensures ∙ not-true c.in_set.result c.if-not-in_set.true) in
-    rw (← c.other_with_partner.ensures, not-false c.other_with_partner.result c.if-not-other_with_partner.false, e)
+    sym (c.requires.1 (property_owner c.args.properties.now c.args.q) (field_lt c.args.properties.now (56 * c.args.q) 6)) ∙ rw (← c.property_owner.ensures.0) (sym c.in_set.ensures ∙ c.if-not-in_set.true) in
+    rw (← c.other_with_partner.ensures, c.if-not-other_with_partner.false, e)
 
 pub returns-then-code-ge32768 : goal.returns-then-code-ge32768
 unfolding model_of other_contains ancestor_or_self ancestor path_of partner_last
 returns-then-code-ge32768 c = let m = model_of [] c.args.types.now [] [] [] [] [] [] [] in
     let e : ancestor_or_self m (property_owner c.args.properties.now c.args.q) (property_owner c.args.properties.now c.args.p) ≡ true =
-    sym (c.requires.1 (property_owner c.args.properties.now c.args.q) (field_lt c.args.properties.now (56 * c.args.q) 6)) ∙ rw (← c.property_owner.ensures.0) (sym c.in_set.ensures ∙ not-false c.in_set.result c.if-not-in_set.false) in
-    rw (← c.other_with_partner.ensures, not-false c.other_with_partner.result c.if-not-other_with_partner.false, e, ← c.partner_code-code.ensures, le-ltb _ _ c.if-code-ge32768.true)
+    sym (c.requires.1 (property_owner c.args.properties.now c.args.q) (field_lt c.args.properties.now (56 * c.args.q) 6)) ∙ rw (← c.property_owner.ensures.0) (sym c.in_set.ensures ∙ c.if-not-in_set.false) in
+    rw (← c.other_with_partner.ensures, c.if-not-other_with_partner.false, e, ← c.partner_code-code.ensures, le-ltb _ _ c.if-code-ge32768.true)
 
 pub returns : goal.returns
 unfolding model_of other_contains ancestor_or_self ancestor path_of partner_last
 returns c = let m = model_of [] c.args.types.now [] [] [] [] [] [] [] in
     let e : ancestor_or_self m (property_owner c.args.properties.now c.args.q) (property_owner c.args.properties.now c.args.p) ≡ true =
-    sym (c.requires.1 (property_owner c.args.properties.now c.args.q) (field_lt c.args.properties.now (56 * c.args.q) 6)) ∙ rw (← c.property_owner.ensures.0) (sym c.in_set.ensures ∙ not-false c.in_set.result c.if-not-in_set.false) in
-    rw (← c.other_with_partner.ensures, not-false c.other_with_partner.result c.if-not-other_with_partner.false, e, ← c.partner_code-code.ensures, lt-ltb _ _ c.if-code-ge32768.false)
+    sym (c.requires.1 (property_owner c.args.properties.now c.args.q) (field_lt c.args.properties.now (56 * c.args.q) 6)) ∙ rw (← c.property_owner.ensures.0) (sym c.in_set.ensures ∙ c.if-not-in_set.false) in
+    rw (← c.other_with_partner.ensures, c.if-not-other_with_partner.false, e, ← c.partner_code-code.ensures, lt-ltb _ _ c.if-code-ge32768.false)
     c.property_contains.ensures
