@@ -1,6 +1,5 @@
 use Prim.Native.Nat.{◌-◌, ◌≤◌}
 use mathlib.Core.Path.{◌≡◌, sym, ◌∙◌}
-use mathlib.Core.Logic.{⊎_elim}
 use native.Mathlib.Numerals.{add-one}
 use native.Mathlib.Omega.{arith}
 use Rattle.csdl.specs.Tables.{property_count}
@@ -9,6 +8,7 @@ use Rattle.name_classes.proofs.Filling.{ranked-start, ranked_old, ranked_new, ra
 use Rattle.name_classes.proofs.Ranks.{firsts_count, place-first, entry_first}
 use borrow.Author.Rules.{rules}
 use Rattle.name_classes.proofs.first_properties.ranked.Goals as goal
+use Rattle.name_classes.proofs.first_properties.ranked.Goals.{then-first-eq0, else-first-eq0}
 
 pub loop-p-init : goal.loop-p-init
 loop-p-init c = (search rules, search rules, ranked-start _ 513)
@@ -44,10 +44,9 @@ pub loop-p-preserved : goal.loop-p-preserved
 loop-p-preserved c = let e = rw c.property_text-name.ensures at c.first_at-first.ensures.0 in (
       search rules,
       search rules,
-      ⊎_elim
-          (λ w. rw (w.4, w.5) (ranked_new _ _ _ _ c.loop-p.invariant.2 (omega arith) _ _ e w.0.taken (rw c.property_text-name.ensures at c.position-at.ensures) _ w.2.ensures.0))
-          (λ w. rw (w.1, w.2) (ranked_old _ _ _ _ c.loop-p.invariant.2 (omega arith) _ _ e w.0.left))
-          c.if-first-eq0.branch,
+      elim c.if-first-eq0.branch [
+        then-first-eq0 w ↦ rw (w.index-is, w.firsts-is) (ranked_new _ _ _ _ c.loop-p.invariant.2 (omega arith) _ _ e w.if-first-eq0.true (rw c.property_text-name.ensures at c.position-at.ensures) _ w.insert.ensures.inserted)
+      | else-first-eq0 w ↦ rw (w.index-is, w.firsts-is) (ranked_old _ _ _ _ c.loop-p.invariant.2 (omega arith) _ _ e w.if-first-eq0.false) ],
     )
 
 pub bounds-index-1536 : goal.bounds-index-1536
@@ -57,6 +56,6 @@ pub returns : goal.returns
 returns c = let e : c.loop-p.p ≡ property_count c.args.properties.now = omega arith in let k = ranked_end _ _ _ _ (omega arith) (rw e at c.loop-p.invariant.2) in record {
       ranked = k;
       result_value = firsts_count _ _ _ _ k;
-      by_index = λ i c.loop-p. add-one _ ∙ place-first _ _ _ _ k i c.loop-p;
+      by_index = λ i l. add-one _ ∙ place-first _ _ _ _ k i l;
       by_index_2 = entry_first _ _ _ _ k;
     }
