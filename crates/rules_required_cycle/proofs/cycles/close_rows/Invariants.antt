@@ -8,7 +8,7 @@ use borrow.Author.Rules.{rules}
 use Rattle.rules_required_cycle.proofs.cycles.close_rows.Given as goal
 
 abbrev pub invariant-loop-c : goal.invariant-loop-c
-invariant-loop-c l = (l.c ≤ l.initial.rows) × (l.initial.rows ≤ 64) × (length l.rows ≡ 64) × (length l.rows ≡ length l.n) × Reached l.initial.rows l.c (step_of l.n) (step_of l.rows)
+invariant-loop-c l = (l.c ≤ l.n) × (l.n ≤ 64) × (length l.rows ≡ 64) × (length l.rows ≡ length l.initial.rows) × Reached l.n l.c (step_of l.initial.rows) (step_of l.rows)
 
 abbrev pub decreases-loop-c : goal.decreases-loop-c
-decreases-loop-c l = l.initial.rows - l.c
+decreases-loop-c l = l.n - l.c

@@ -29,8 +29,8 @@ loop-t-preserved c = let m = model_of [] c.args.types.now c.args.properties.now 
       search rules,
       simp length-set (search rules),
       below_more (λ w. Members 64 (get_or (set c.loop-t.rows c.loop-t.t c.rows_of.result) w 0) (λ u. required_step m w u)) c.loop-t.t
-          (λ w i u h. ap (λ c.with_ancestors. member c.with_ancestors u) (get_or-set_other c.loop-t.rows c.loop-t.t w c.rows_of.result 0 (λ q. let z : w ≡ c.loop-t.t = q in omega arith)) ∙ c.loop-t.invariant.4 w i u h)
-          (λ u h. ap (λ c.with_ancestors. member c.with_ancestors u) (get_or-set_same c.loop-t.rows c.loop-t.t c.rows_of.result 0 (omega arith)) ∙ c.rows_of.ensures u h
+          (λ w i u h. ap (λ s. member s u) (get_or-set_other c.loop-t.rows c.loop-t.t w c.rows_of.result 0 (λ q. let z : w ≡ c.loop-t.t = q in omega arith)) ∙ c.loop-t.invariant.4 w i u h)
+          (λ u h. ap (λ s. member s u) (get_or-set_same c.loop-t.rows c.loop-t.t c.rows_of.result 0 (omega arith)) ∙ c.rows_of.ensures u h
           ∙ all_steps m c.own_rows-own.result c.with_ancestors.result c.loop-t.t u h (λ p. field_lt c.args.properties.now (56 * p) 6) c.own_rows-own.ensures.1 c.with_ancestors.ensures),
     )
 
