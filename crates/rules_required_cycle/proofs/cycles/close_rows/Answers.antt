@@ -11,7 +11,7 @@ pub loop-c-init : goal.loop-c-init
 loop-c-init c = (search rules, search rules, search rules, search rules, reached_start _ _)
 
 pub loop-c-preserved : goal.loop-c-preserved
-loop-c-preserved c = (search rules, search rules, search rules, search rules, reached_more c.args.n 64 c.loop-c.c (step_of c.args.rows.now) (step_of c.loop-c.rows) (step_of c.go_through.new.0) (omega arith) (omega arith) c.loop-c.invariant.4 (record { row = c.go_through.ensures.row }))
+loop-c-preserved c = (search rules, search rules, search rules, search rules, reached_more c.args.n 64 c.loop-c.c (step_of c.args.rows.now) (step_of c.loop-c.rows) (step_of c.go_through.new.rows) (omega arith) (omega arith) c.loop-c.invariant.4 (record { row = c.go_through.ensures.row }))
 
 pub returns : goal.returns
 returns c = let e : c.loop-c.c ≡ c.args.n = omega arith in
