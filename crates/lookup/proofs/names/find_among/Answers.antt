@@ -2,7 +2,6 @@ use Prim.Native.Nat.{ℕ, ◌≤◌}
 use mathlib.Core.Path.{◌≡◌, ap, ◌∙◌}
 use mathlib.Core.List.{List}
 use lib.ListN.{length, get_or}
-use mathlib.Core.Logic.{⊎_elim}
 use native.Mathlib.Omega.{arith}
 use Rattle.csdl.specs.Tables.{type_base, type_count, property_count}
 use Rattle.csdl.specs.Model.{model_of}
@@ -15,6 +14,7 @@ use Rattle.lookup.proofs.Found.{found_none}
 use Rattle.lookup.proofs.Looking.{Looking, remaining, on-start, on_below, on_less, looking_start, looking_end, looking_nearer, looking_farther}
 use borrow.Author.Rules.{rules}
 use Rattle.lookup.proofs.names.find_among.Goals as goal
+use Rattle.lookup.proofs.names.find_among.Goals.{then-near-left, else-near-left}
 
 pub returns-then-first-eq0 : goal.returns-then-first-eq0
 returns-then-first-eq0 c = found_none c.args.types.now c.args.properties.now c.args.names.now c.args.name.now c.args.index.now c.requires.4 (omega arith) c.args.t c.args.first c.requires.3 c.if-first-eq0.true
@@ -34,10 +34,9 @@ loop-at-smaller c = on_less _ _ _ _ _ _ _ c.loop-at.invariant.1.on c.loop-at-tes
 pub loop-at-preserved : goal.loop-at-preserved
 loop-at-preserved c = let left = ap (λ (l : List ℕ). get_or l c.property_owner.result 0) c.loop-at.invariant.3 ∙ nearness_at _ _ _ c.property_owner.result (omega (arith, c.property_owner.ensures.1)) ∙ ap (λ (k : ℕ). left_at (only k) (λ u. type_base c.args.types.now u) (type_count c.args.types.now) c.args.t) c.property_owner.ensures.0 in (
       c.loop-at.invariant.0,
-      ⊎_elim
-          (λ w. rw (w.1, w.2) (looking_nearer _ _ _ _ _ _ _ _ _ _ _ c.loop-at.invariant.1 c.loop-at-test.true _ c.next_alike-at.ensures _ left w.0.taken))
-          (λ w. rw (w.1, w.2) (looking_farther _ _ _ _ _ _ _ _ _ _ _ c.loop-at.invariant.1 c.loop-at-test.true _ c.next_alike-at.ensures _ left w.0.left))
-          c.if-near-left.branch,
+      elim c.if-near-left.branch [
+        then-near-left w ↦ rw (w.found-is, w.near-is) (looking_nearer _ _ _ _ _ _ _ _ _ _ _ c.loop-at.invariant.1 c.loop-at-test.true _ c.next_alike-at.ensures _ left w.if-near-left.true)
+      | else-near-left w ↦ rw (w.found-is, w.near-is) (looking_farther _ _ _ _ _ _ _ _ _ _ _ c.loop-at.invariant.1 c.loop-at-test.true _ c.next_alike-at.ensures _ left w.if-near-left.false) ],
       c.loop-at.invariant.2,
       c.loop-at.invariant.3,
     )
