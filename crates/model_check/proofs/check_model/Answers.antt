@@ -15,11 +15,9 @@ first_broken-answer-requires c = (layout _ (sym c.bad_image.ensures ∙ c.if-bad
 
 pub returns-in-Accepted : goal.returns-in-Accepted
 returns-in-Accepted c = let good = sym c.bad_image.ensures ∙ c.if-bad_image.false in
-    answer_accepted _ _ good (roomy _ _ _ c.number_at-n.ensures c.if-resolution-n.false) _ c.first_broken-answer.ensures.result_value _ c.in
-    let all = -Accepted.is _
+    let all = answer_accepted _ _ good (roomy _ _ _ c.number_at-n.ensures c.if-resolution-n.false) _ c.first_broken-answer.ensures.result_value _ c.in-Accepted.is _
     (c.write_resolution.ensures ∙ written_codes _ good _ c.number_at-n.ensures _ _ c.first_broken-answer.ensures.result_value c.in-Accepted.is _ (c.first_broken-answer.ensures.by_index _ c.in-Accepted.is) _) in record { result_value = all.0; resolution_after = all.1 }
 
 pub returns-in-Refused : goal.returns-in-Refused
 returns-in-Refused c = let good = sym c.bad_image.ensures ∙ c.if-bad_image.false in
-    answer_refused _ _ good (roomy _ _ _ c.number_at-n.ensures c.if-resolution-n.false) _ c.first_broken-answer.ensures.result_value _ _ c.in
-    let all = -Refused.is in record { result_value = all.0; resolution_after = all.1 }
+    let all = answer_refused _ _ good (roomy _ _ _ c.number_at-n.ensures c.if-resolution-n.false) _ c.first_broken-answer.ensures.result_value _ _ c.in-Refused.is in record { result_value = all.0; resolution_after = all.1 }

@@ -13,7 +13,7 @@ use Rattle.model_rules.proofs.Along.{segments_last}
 use Rattle.model_check.proofs.first_among.Given as goal
 
 abbrev pub invariant-loop-stage : goal.invariant-loop-stage
-invariant-loop-stage l = (3 ≤ l.stage) × (l.stage ≤ l.initial.codes) × (l.initial.codes ≤ 20) × (length l.codes ≡ 1024) × (11 < l.initial.codes → IndexIn l.image l.index × AncestorsIn l.image l.from) × Clear (model_in l.image) l.stage × (15 ≤ l.stage → Coded (model_in l.image) l.codes)
+invariant-loop-stage l = (3 ≤ l.stage) × (l.stage ≤ l.to) × (l.to ≤ 20) × (length l.codes ≡ 1024) × (11 < l.to → IndexIn l.image l.index × AncestorsIn l.image l.ancestors) × Clear (model_in l.image) l.stage × (15 ≤ l.stage → Coded (model_in l.image) l.codes)
 
 abbrev pub decreases-loop-stage : goal.decreases-loop-stage
-decreases-loop-stage l = l.initial.codes - l.stage
+decreases-loop-stage l = l.to - l.stage
