@@ -1,7 +1,6 @@
 use Prim.Native.Nat.{ℕ, ◌+◌, ◌-◌, ◌≤◌, ◌<◌, zero-le}
 use mathlib.Core.Path.{◌≡◌, refl, ap, ◌∙◌}
 use mathlib.Core.List.{List}
-use mathlib.Core.Logic.{⊎_elim}
 use native.Mathlib.Omega.{arith}
 use lib.ListN.{length, get_or}
 use Rattle.csdl.specs.Tables.{type_base, type_count, property_count, property_owner}
@@ -11,6 +10,7 @@ use Rattle.type_hierarchy.proofs.Climbing.{nearness_size, nearness_at}
 use Rattle.type_names.proofs.Meanings.{entry-below, entry-fits, entry_doubled, Meant, meant_start, meant_nearer, meant_farther, meaning}
 use borrow.Author.Rules.{rules}
 use Rattle.type_names.proofs.members.meaning_of.Goals as goal
+use Rattle.type_names.proofs.members.meaning_of.Goals.{then-near-h, else-near-h}
 
 pub loop-p-init : goal.loop-p-init
 loop-p-init c = (zero-le, c.property_count-n.ensures.1, meant_start _ _ _ _ _, c.nearness_of-nearness.ensures, c.requires.3, c.requires.4, c.property_count-n.ensures.0)
@@ -44,10 +44,9 @@ loop-p-preserved c = let small = c.loop-p.invariant.5 c.loop-p.p (omega arith) i
     let e = ap (λ (x : List ℕ). get_or x c.property_owner.result 0) c.loop-p.invariant.3 ∙ nearness_at _ _ _ c.property_owner.result (omega (arith, c.property_owner.ensures.1)) ∙ ap (λ (k : ℕ). left_at (only k) (λ u. type_base c.args.types.now u) (type_count c.args.types.now) c.args.t) c.property_owner.ensures.0 in (
       search rules,
       c.loop-p.invariant.1,
-      ⊎_elim
-          (λ w. rw (w.1, w.2) (meant_nearer _ _ _ _ _ _ _ _ c.loop-p.invariant.2 _ refl (omega (arith, small)) _ e w.0.taken))
-          (λ w. rw (w.1, w.2) (meant_farther _ _ _ _ _ _ _ _ c.loop-p.invariant.2 (get_or c.args.index.now (512 + c.loop-p.p) 0) refl (omega (arith, small)) _ e w.0.left))
-          c.if-near-h.branch,
+      elim c.if-near-h.branch [
+        then-near-h w ↦ rw (w.found-is, w.near-is) (meant_nearer _ _ _ _ _ _ _ _ c.loop-p.invariant.2 _ refl (omega (arith, small)) _ e w.if-near-h.true)
+      | else-near-h w ↦ rw (w.found-is, w.near-is) (meant_farther _ _ _ _ _ _ _ _ c.loop-p.invariant.2 (get_or c.args.index.now (512 + c.loop-p.p) 0) refl (omega (arith, small)) _ e w.if-near-h.false) ],
       c.loop-p.invariant.3,
       c.loop-p.invariant.4,
       c.loop-p.invariant.5,

@@ -1,6 +1,5 @@
 use Prim.Native.Nat.{ℕ, ◌+◌, ◌-◌, ◌≤◌}
 use mathlib.Core.Path.{◌≡◌, refl, sym, ◌∙◌}
-use mathlib.Core.Logic.{⊎_elim}
 use mathlib.Core.List.{[]}
 use mathlib.Core.Bool.{Bool, true, false, ◌&&◌}
 use native.Mathlib.Numerals.{add-one}
@@ -18,6 +17,7 @@ use Rattle.type_names.proofs.WideLaws.{wide-none, below_with, below_without, bel
 use Rattle.type_names.proofs.Meanings.{entry_lt, name_meant}
 use borrow.Author.Rules.{rules}
 use Rattle.type_names.proofs.members.names_of.Goals as goal
+use Rattle.type_names.proofs.members.names_of.Goals.{then-found-index, else-found-index}
 
 pub meaning_of-found-requires : goal.meaning_of-found-requires
 meaning_of-found-requires c = (c.requires.0, c.requires.1, c.requires.2, c.requires.3.size, entry_lt _ _ _ c.requires.3 (omega arith))
@@ -40,10 +40,9 @@ bounds-found-index c = omega (arith, entry_lt _ _ _ c.loop-p.invariant.6 (omega 
 pub loop-p-preserved : goal.loop-p-preserved
 loop-p-preserved c = let test : ℕ → Bool = (λ q. is_name_of (model_of [] c.args.types.now c.args.properties.now [] [] [] [] [] c.args.names.now) c.args.t q) in
     let e = name_meant c.args.types.now c.args.properties.now c.args.names.now c.args.index.now c.args.t c.loop-p.invariant.6 c.loop-p.p (omega arith) c.meaning_of-found.result (omega arith) c.loop-p.invariant.5 in
-    let s : (length c.if-found-index.set ≡ 8) × MembersWide c.if-found-index.set 0 (λ q. ltb q (c.loop-p.p + 1) && test q) = ⊎_elim
-    (λ w. let t : test c.loop-p.p ≡ true = sym e ∙ eq-eqb _ _ (w.0.taken ∙ add-one c.loop-p.p) in rw w.2 (w.1.ensures.0, λ q h. w.1.ensures.1 q h ∙ rw (c.loop-p.invariant.4 q h) (below_with test c.loop-p.p q t)))
-    (λ w. let t : test c.loop-p.p ≡ false = sym e ∙ ne_eqb _ _ (λ y. w.0.left (y ∙ sym (add-one c.loop-p.p))) in rw w.1 (c.loop-p.invariant.3, λ q h. c.loop-p.invariant.4 q h ∙ below_without test c.loop-p.p q t))
-    c.if-found-index.branch in
+    let s : (length c.if-found-index.set ≡ 8) × MembersWide c.if-found-index.set 0 (λ q. ltb q (c.loop-p.p + 1) && test q) = elim c.if-found-index.branch [
+      then-found-index w ↦ (let t : test c.loop-p.p ≡ true = sym e ∙ eq-eqb _ _ (w.if-found-index.true ∙ add-one c.loop-p.p) in rw w.set-is (w.with_wide-next.ensures.0, λ q h. w.with_wide-next.ensures.1 q h ∙ rw (c.loop-p.invariant.4 q h) (below_with test c.loop-p.p q t)))
+    | else-found-index w ↦ (let t : test c.loop-p.p ≡ false = sym e ∙ ne_eqb _ _ (λ y. w.if-found-index.false (y ∙ sym (add-one c.loop-p.p))) in rw w.set-is (c.loop-p.invariant.3, λ q h. c.loop-p.invariant.4 q h ∙ below_without test c.loop-p.p q t)) ] in
     (search rules, search rules, c.loop-p.invariant.2, s.0, s.1, c.loop-p.invariant.5, c.loop-p.invariant.6)
 
 pub returns : goal.returns
