@@ -64,5 +64,5 @@ module _ (to : ℕ → Segment → ℕ) (seg : ℕ → Segment) where
   unfolding tab along along_end
   steps_tab what t i zero = refl
   steps_tab what t i (suc n) =
-      rw (steps_tab what (to t (seg i)) (i + 1) n, add-zero i, tab_shift _ 0 n)
+      rw (steps_tab what (to t (seg i)) (i + 1) n, add-zero i, tab_shift (λ k. what (along_end to t (tab seg i k)) (seg (i + k))) 0 n)
       (ap (λ l. what t (seg i) ∷ l) (tab-same _ _ 0 n (λ k a b. rw (add-one k) (let e : i + suc k ≡ i + 1 + k = omega arith in rw e))))

@@ -17,7 +17,11 @@ found zero at ok typed to n e g = absurd (n refl)
 found (suc p) at ok typed to n e g = let o : suc p - 1 ≡ p = omega arith in rw (eqb-suc-zero p) (e ∙ sym (and-true at), (o, rw o at g))
 
 pub returns-then-found-eq0 : goal.returns-then-found-eq0
-returns-then-found-eq0 c = let all = rw (c.if-found-eq0.true, and-false) (refl, (refl, refl)) in record { ok_value = all.0; code_value = all.1.0; to_value = all.1.1 }
+returns-then-found-eq0 c = record {
+  ok_value = rw (c.if-found-eq0.true, and-false);
+  code_value = rw c.if-found-eq0.true;
+  to_value = rw c.if-found-eq0.true;
+}
 
 pub returns : goal.returns
 returns c = let all = found _ _ _ _ _ c.if-found-eq0.false c.structured-ok.ensures c.property_type_ref-to.ensures.0 in record { ok_value = all.0; code_value = all.1.0; to_value = all.1.1 }
