@@ -33,6 +33,6 @@ returns c = let m = model_in c.args.image.now in
     let l = opened c.requires.0 in
     c.earlier.ensures
     ∙ ap₂ (λ a b. or_else a b)
-    (lowest_in l property-table (λ c.keys_of-keys.ensures.0. property18a m c.keys_of-keys.ensures.0) (rw (c.types_of-types.ensures.0, c.properties_of.ensures.0, c.keys_of-keys.ensures.0) at c.first_property_18.ensures) c.place_found.ensures)
-    (lowest_in l child-table (λ c.keys_of-keys.ensures.0. child18 m c.keys_of-keys.ensures.0) (rw (c.types_of-types.ensures.0, c.keys_of-keys.ensures.0, c.children_of.ensures.0) at c.first_child_18.ensures) c.place_found-2.ensures)
-    ∙ tables_lowest m property-table child-table (λ c.keys_of-keys.ensures.0. property18a m c.keys_of-keys.ensures.0) (λ c.keys_of-keys.ensures.0. child18 m c.keys_of-keys.ensures.0) (properties-before m)
+    (lowest_in l property-table (λ k. property18a m k) (rw (c.types_of-types.ensures.0, c.properties_of.ensures.0, c.keys_of-keys.ensures.0) at c.first_property_18.ensures) c.place_found.ensures)
+    (lowest_in l child-table (λ k. child18 m k) (rw (c.types_of-types.ensures.0, c.keys_of-keys.ensures.0, c.children_of.ensures.0) at c.first_child_18.ensures) c.place_found-2.ensures)
+    ∙ tables_lowest m property-table child-table (λ k. property18a m k) (λ k. child18 m k) (properties-before m)

@@ -19,7 +19,7 @@ cover_run-requires c = (search rules, tallied_small (λ k g. in_run (path_of (mo
 
 pub loop-r-preserved : goal.loop-r-preserved
 unfolding inside
-loop-r-preserved c = (search rules, search rules, search rules, tallied_more (λ k g. in_run (path_of (model_of [] [] c.args.properties.now c.args.keys.now c.args.constraints.now [] c.args.bindings.now [] []) c.args.kind k) g) c.args.cover.now c.loop-r.cover c.cover_run.new.0 c.loop-r.r c.loop-r.invariant.2 c.loop-r.invariant.3 (λ g h. added (path_of (model_of [] [] c.args.properties.now c.args.keys.now c.args.constraints.now [] c.args.bindings.now [] []) c.args.kind c.loop-r.r) _ _ g _ _ c.path_of-run.ensures.0 c.path_of-run.ensures.1 (c.cover_run.ensures.1 g h)), search rules)
+loop-r-preserved c = (search rules, search rules, search rules, tallied_more (λ k g. in_run (path_of (model_of [] [] c.args.properties.now c.args.keys.now c.args.constraints.now [] c.args.bindings.now [] []) c.args.kind k) g) c.args.cover.now c.loop-r.cover c.cover_run.new.cover c.loop-r.r c.loop-r.invariant.2 c.loop-r.invariant.3 (λ g h. added (path_of (model_of [] [] c.args.properties.now c.args.keys.now c.args.constraints.now [] c.args.bindings.now [] []) c.args.kind c.loop-r.r) _ _ g _ _ c.path_of-run.ensures.0 c.path_of-run.ensures.1 (c.cover_run.ensures.1 g h)), search rules)
 
 pub returns : goal.returns
 unfolding kind_paths_with

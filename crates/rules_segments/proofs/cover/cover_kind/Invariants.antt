@@ -12,7 +12,7 @@ use Rattle.rules_segments.proofs.Covering.{Tallied, tallied_start, tallied_more,
 use Rattle.rules_segments.proofs.cover.cover_kind.Given as goal
 
 abbrev pub invariant-loop-r : goal.invariant-loop-r
-invariant-loop-r l = (l.r ≤ l.initial.cover) × (l.initial.cover ≤ 512) × (length l.cover ≡ length l.n) × Tallied (λ k g. in_run (path_of (model_of [] [] l.properties l.keys l.constraints [] l.bindings [] []) l.kind k) g) l.n l.cover l.r × (l.initial.cover ≡ holders (model_of [] [] l.properties l.keys l.constraints [] l.bindings [] []) l.kind)
+invariant-loop-r l = (l.r ≤ l.n) × (l.n ≤ 512) × (length l.cover ≡ length l.initial.cover) × Tallied (λ k g. in_run (path_of (model_of [] [] l.properties l.keys l.constraints [] l.bindings [] []) l.kind k) g) l.initial.cover l.cover l.r × (l.n ≡ holders (model_of [] [] l.properties l.keys l.constraints [] l.bindings [] []) l.kind)
 
 abbrev pub decreases-loop-r : goal.decreases-loop-r
-decreases-loop-r l = l.initial.cover - l.r
+decreases-loop-r l = l.n - l.r

@@ -7,7 +7,7 @@ use Rattle.rules_segments.proofs.Covering.{Counted, counted_start, counted-small
 use Rattle.rules_segments.proofs.cover.cover_run.Given as goal
 
 abbrev pub invariant-loop-g : goal.invariant-loop-g
-invariant-loop-g l = (l.count ≤ l.g) × (l.g ≤ l.count + l.from) × (l.initial.cover ≡ min (l.count + l.from) (length l.first)) × (length l.cover ≡ length l.first) × Counted l.first l.cover l.count l.g
+invariant-loop-g l = (l.first ≤ l.g) × (l.g ≤ l.first + l.count) × (l.end ≡ min (l.first + l.count) (length l.initial.cover)) × (length l.cover ≡ length l.initial.cover) × Counted l.initial.cover l.cover l.first l.g
 
 abbrev pub decreases-loop-g : goal.decreases-loop-g
-decreases-loop-g l = l.initial.cover - l.g
+decreases-loop-g l = l.end - l.g

@@ -17,7 +17,7 @@ pub cover_kind-requires : goal.cover_kind-requires
 cover_kind-requires c = (search rules, search rules, search rules, search rules, λ g h. omega (arith, (c.loop-n.invariant.2 g (omega arith)).1))
 
 pub loop-n-preserved : goal.loop-n-preserved
-loop-n-preserved c = (search rules, search rules, summed_more (λ c.cover_kind g. kind_paths_with (model_of [] [] c.args.properties.now c.args.keys.now c.args.constraints.now [] c.args.bindings.now [] []) (kind_at c.cover_kind) g) c.loop-n.cover c.cover_kind.new.1.1.1.1.1.0 c.loop-n.n c.loop-n.invariant.2 (λ g h. rw (← c.kind_at-kind.ensures) (c.cover_kind.ensures.1 g (omega arith))))
+loop-n-preserved c = (search rules, search rules, summed_more (λ k g. kind_paths_with (model_of [] [] c.args.properties.now c.args.keys.now c.args.constraints.now [] c.args.bindings.now [] []) (kind_at k) g) c.loop-n.cover c.cover_kind.new.cover c.loop-n.n c.loop-n.invariant.2 (λ g h. rw (← c.kind_at-kind.ensures) (c.cover_kind.ensures.1 g (omega arith))))
 
 pub returns : goal.returns
 returns c = let e : c.loop-n.n ≡ 6 = omega arith in

@@ -12,7 +12,7 @@ use borrow.Author.Rules.{rules}
 use Rattle.rules_segments.proofs.unresolved.unresolved_of.Given as goal
 
 abbrev pub invariant-loop-r : goal.invariant-loop-r
-invariant-loop-r l = (l.r ≤ l.initial.codes) × (length l.codes ≡ length l.n) × (l.initial.codes ≡ holders (model_in l.image) l.kind) × Least (λ j g. unresolved_in (model_in l.image) l.kind g j) l.bound l.r l.low × KindStep (model_in l.image) l.kind l.r l.n l.codes × PastKept (model_in l.image) l.n l.codes
+invariant-loop-r l = (l.r ≤ l.n) × (length l.codes ≡ length l.initial.codes) × (l.n ≡ holders (model_in l.image) l.kind) × Least (λ j g. unresolved_in (model_in l.image) l.kind g j) l.bound l.r l.low × KindStep (model_in l.image) l.kind l.r l.initial.codes l.codes × PastKept (model_in l.image) l.initial.codes l.codes
 
 abbrev pub decreases-loop-r : goal.decreases-loop-r
-decreases-loop-r l = l.initial.codes - l.r
+decreases-loop-r l = l.n - l.r
