@@ -3,27 +3,31 @@ use crate::models::{FILL, load};
 use crate::{line, print};
 use csdl::{InstanceAnswer, WalkAnswer};
 use input::IMAGE_SIZE;
+use std::rt::Files;
 
 // A byte more than the largest image of an instance.
 const INSTANCE_SIZE: usize = 14345;
 
-pub fn check(text: &[u8]) {
+pub fn check(rt: &(impl Print + Eprint + Alloc + Files), text: &[u8]) {
     let mut image = [0u8; IMAGE_SIZE];
-    let m = load(line::model(text), &mut image);
+    let m = load(rt, line::model(text), &mut image);
     let mut instance = [0u8; INSTANCE_SIZE];
-    let n = load(line::second(text), &mut instance);
-    print_instance(instance_check::check_instance(&image[..m], &instance[..n]));
+    let n = load(rt, line::second(text), &mut instance);
+    print_instance(
+        rt,
+        instance_check::check_instance(&image[..m], &instance[..n]),
+    );
 }
 
-pub fn walk(text: &[u8]) {
+pub fn walk(rt: &(impl Print + Eprint + Alloc + Files), text: &[u8]) {
     let mut image = [0u8; IMAGE_SIZE];
-    let m = load(line::model(text), &mut image);
+    let m = load(rt, line::model(text), &mut image);
     let mut instance = [0u8; INSTANCE_SIZE];
-    let n = load(line::second(text), &mut instance);
+    let n = load(rt, line::second(text), &mut instance);
     let mut buffer = [FILL; 16384];
     let answer = walk_lent(&image[..m], &instance[..n], text, &mut buffer);
-    print_walk(answer);
-    print::bytes(b" results ", &buffer, line::shown(text));
+    print_walk(rt, answer);
+    print::bytes(rt, b" results ", &buffer, line::shown(text));
 }
 
 // The walk that the line asks for, with the first bytes of the buffer lent, or all of it where it has not so many.
@@ -38,19 +42,19 @@ fn walk_lent(image: &[u8], instance: &[u8], text: &[u8], buffer: &mut [u8]) -> W
     walk::walk(image, instance, place, path, node, buffer)
 }
 
-fn print_instance(answer: InstanceAnswer) {
+fn print_instance(rt: &impl Print, answer: InstanceAnswer) {
     match answer {
-        InstanceAnswer::Conforms => print::conforms(),
-        InstanceAnswer::Refused { rule, place } => print::refused(rule, place),
+        InstanceAnswer::Conforms => print::conforms(rt),
+        InstanceAnswer::Refused { rule, place } => print::refused(rt, rule, place),
     }
 }
 
-fn print_walk(answer: WalkAnswer) {
+fn print_walk(rt: &impl Print, answer: WalkAnswer) {
     match answer {
         WalkAnswer::Walked { results, opened } => {
-            print::numbered(b"walked ", results);
-            print::numbered(b" opened ", opened);
+            print::numbered(rt, b"walked ", results);
+            print::numbered(rt, b" opened ", opened);
         }
-        WalkAnswer::Refused { rule, place } => print::refused(rule, place),
+        WalkAnswer::Refused { rule, place } => print::refused(rt, rule, place),
     }
 }

@@ -8,47 +8,49 @@ mod line;
 mod models;
 mod print;
 
+use std::fs;
+use std::io::Read;
+use std::rt::Files;
+
 // One case: `m`, the check of a model; `i`, that of an instance; `w`, a walk; `e`, the check of members of enumerations.
-fn answer(text: &[u8]) {
-    io::write_all(1, line::name(text));
-    io::write_all(1, b" ");
+fn answer(rt: &(impl Print + Eprint + Alloc + Files), text: &[u8]) {
+    print::text(rt, line::name(text));
+    print::text(rt, b" ");
     match line::letter(text) {
-        b'm' => models::check(text),
-        b'i' => instances::check(text),
-        b'w' => instances::walk(text),
-        b'e' => enumerations::check(text),
-        _ => {
-            io::write_all(1, b"unknown");
-        }
+        b'm' => models::check(rt, text),
+        b'i' => instances::check(rt, text),
+        b'w' => instances::walk(rt, text),
+        b'e' => enumerations::check(rt, text),
+        _ => print::text(rt, b"unknown"),
     }
-    io::write_all(1, b"\n");
+    print::text(rt, b"\n");
 }
 
 // Reads a line, answers its case and says whether to go on.
-fn answer_next(fd: i32) -> bool {
+fn answer_next(rt: &(impl Print + Eprint + Alloc + Files), list: &mut impl Read) -> bool {
     let mut text = [0u8; line::SIZE];
-    let n = io::read_full(fd, &mut text);
+    let n = models::read_full(list, &mut text);
     if n < line::SIZE {
         return false;
     }
-    answer(&text);
+    answer(rt, &text);
     true
 }
 
 // A proved loop has to end, so it counts its turns down, from a number that no list uses up.
-fn answer_all(fd: i32) {
+fn answer_all(rt: &(impl Print + Eprint + Alloc + Files), list: &mut impl Read) {
     let mut turns = u64::MAX;
-    while turns > 0 && answer_next(fd) {
+    while turns > 0 && answer_next(rt, list) {
         turns -= 1;
     }
 }
 
-fn main() {
-    let fd = os::open_read(b"list");
-    if fd < 0 {
-        os::fail(b"list");
-        return;
+fn main(rt: HostRuntime) {
+    match fs::open(&rt, "list") {
+        Ok(file) => {
+            let mut list = file;
+            answer_all(&rt, &mut list);
+        }
+        Err(error) => input::fail(&rt, b"list", error),
     }
-    answer_all(fd);
-    libc::close(fd);
 }

@@ -1,36 +1,55 @@
 // The check of a stored model.
-ghost use Rattle.io.specs.Counts.{IsPrefixLen};
+ghost use Rattle.std.specs.Prelude.{◌≡◌, ◌≤◌, length, take};
 
 use crate::{line, print};
 use csdl::ModelAnswer;
 use input::IMAGE_SIZE;
+use std::io::Read;
+use std::rt::Files;
 
 // What each byte of a buffer holds before the call.
 pub const FILL: u8 = 238;
 
 // Reads a file into the array and answers how many bytes it has. Where it cannot be opened it says so among the verdicts, so that the run
 // differs from the stored one, and answers 0.
-pub fn load(path: &[u8], image: &mut [u8]) -> usize
-    ensures { IsPrefixLen result image.new }
+pub fn load(rt: &(impl Print + Eprint + Alloc + Files), path: &[u8], image: &mut [u8]) -> usize
+    ensures { (result ≤ length image.new) × (result ≡ length (take result image.new)) }
 {
-    let fd = os::open_read(path);
-    if fd < 0 {
-        os::fail(path);
-        io::write_all(1, b"unread ");
-        return 0;
+    match input::open(rt, path) {
+        Ok(file) => {
+            let mut file = file;
+            read_full(&mut file, image)
+        }
+        Err(error) => {
+            input::fail(rt, path, error);
+            print::text(rt, b"unread ");
+            0
+        }
     }
-    let n = io::read_full(fd, image);
-    libc::close(fd);
-    n
 }
 
-pub fn check(text: &[u8]) {
+// Reads until the array is full, the input ends or a read fails, and answers how many bytes it put at the start of the array.
+pub fn read_full(from: &mut impl Read, image: &mut [u8]) -> usize
+    ensures { (result ≤ length image.new) × (result ≡ length (take result image.new)) }
+{
+    let mut done: usize = 0;
+    while done < image.len() {
+        let n = from.read(&mut image[done..]).unwrap_or(0);
+        if n == 0 {
+            break;
+        }
+        done += n;
+    }
+    done
+}
+
+pub fn check(rt: &(impl Print + Eprint + Alloc + Files), text: &[u8]) {
     let mut image = [0u8; IMAGE_SIZE];
-    let n = load(line::model(text), &mut image);
+    let n = load(rt, line::model(text), &mut image);
     let mut buffer = [FILL; 4096];
     let answer = check_lent(&image[..n], &mut buffer, line::lent(text));
-    print::model(answer);
-    print::bytes(b" buffer ", &buffer, line::shown(text));
+    print::model(rt, answer);
+    print::bytes(rt, b" buffer ", &buffer, line::shown(text));
 }
 
 // The check with the first bytes of the buffer lent, or all of it where it has not so many.

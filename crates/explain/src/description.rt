@@ -3,7 +3,7 @@
 ghost use Rattle.model_image.specs.Laid.{Laid};
 ghost use Rattle.model_image.specs.Limits.{FewTypes};
 
-use crate::print::{joined, named, numbered, text};
+use crate::print::{Output, joined, named, numbered, text};
 use csdl::Record;
 use model_image::bindings::binding_child;
 use model_image::children::{child_count, child_singleton, child_type};
@@ -20,41 +20,44 @@ use model_image::texts::{child_text, namespace_text, property_text, type_text};
 use model_image::types::{type_count, type_kind, type_schema};
 
 // The record at a place, as `property 3 Label of entity type 1 Stop`.
-pub fn record(image: &[u8], at: Layout, names: &[u8], place: u16)
+pub fn record(rt: &impl Output, image: &[u8], at: Layout, names: &[u8], place: u16)
     requires { Laid image.now at }
 {
     let rec = record_at(at, place);
-    head(image, at, rec);
-    named(model_naming::name_record(image, place as u32));
+    head(rt, image, at, rec);
+    named(rt, model_naming::name_record(image, place as u32));
     let owner = owner_of(image, at, rec);
     if let Record::Nowhere = owner {
         return;
     }
-    text(b" of ");
-    in_words(image, at, names, owner);
+    text(rt, b" of ");
+    in_words(rt, image, at, names, owner);
 }
 
 // A schema, type, property or child, as `entity type 1 Stop` or `navigation property 4 Stop/Next`.
-pub fn in_words(image: &[u8], at: Layout, names: &[u8], rec: Record)
+pub fn in_words(rt: &impl Output, image: &[u8], at: Layout, names: &[u8], rec: Record)
     requires { Laid image.now at }
 {
-    head(image, at, rec);
+    head(rt, image, at, rec);
     match rec {
-        Record::OfSchema(s) => named(namespace_text(schemas_of(image, at), names, s)),
-        Record::OfType(t) => named(type_text(types_of(image, at), names, t)),
-        Record::OfProperty(p) => named_within(image, at, names, p),
-        Record::OfChild(h) => named(child_text(children_of(image, at), names, h)),
+        Record::OfSchema(s) => named(rt, namespace_text(schemas_of(image, at), names, s)),
+        Record::OfType(t) => named(rt, type_text(types_of(image, at), names, t)),
+        Record::OfProperty(p) => named_within(rt, image, at, names, p),
+        Record::OfChild(h) => named(rt, child_text(children_of(image, at), names, h)),
         _ => {}
     }
 }
 
 // The name of a property behind that of its owner.
-fn named_within(image: &[u8], at: Layout, names: &[u8], p: u16)
+fn named_within(rt: &impl Output, image: &[u8], at: Layout, names: &[u8], p: u16)
     requires { Laid image.now at }
 {
     let properties = properties_of(image, at);
-    named(type_text(types_of(image, at), names, property_owner(properties, p)));
-    joined(b"/", property_text(properties, names, p));
+    named(
+        rt,
+        type_text(types_of(image, at), names, property_owner(properties, p)),
+    );
+    joined(rt, b"/", property_text(properties, names, p));
 }
 
 // The record that a record belongs to, or nowhere.
@@ -76,38 +79,39 @@ fn owner_of(image: &[u8], at: Layout, rec: Record) -> Record
 }
 
 // What a record is, and its number.
-fn head(image: &[u8], at: Layout, rec: Record)
+fn head(rt: &impl Output, image: &[u8], at: Layout, rec: Record)
     requires { Laid image.now at }
 {
     match rec {
-        Record::OfSchema(s) => schema_head(image, at, s),
-        Record::OfType(t) => type_head(image, at, t),
-        Record::OfProperty(p) => property_head(image, at, p),
-        Record::OfKey(k) => plain_head(0, k),
-        Record::OfConstraint(c) => plain_head(1, c),
-        Record::OfChild(h) => child_head(image, at, h),
-        Record::OfBinding(b) => plain_head(2, b),
-        Record::OfSegment(g) => segment_head(image, at, g),
-        Record::Nowhere => text(b"no record"),
+        Record::OfSchema(s) => schema_head(rt, image, at, s),
+        Record::OfType(t) => type_head(rt, image, at, t),
+        Record::OfProperty(p) => property_head(rt, image, at, p),
+        Record::OfKey(k) => plain_head(rt, 0, k),
+        Record::OfConstraint(c) => plain_head(rt, 1, c),
+        Record::OfChild(h) => child_head(rt, image, at, h),
+        Record::OfBinding(b) => plain_head(rt, 2, b),
+        Record::OfSegment(g) => segment_head(rt, image, at, g),
+        Record::Nowhere => text(rt, b"no record"),
     }
 }
 
 // A record of a table that has one word.
-fn plain_head(k: u16, n: u16) {
-    numbered(b"key |constraint |binding ", k, n);
+fn plain_head(rt: &impl Output, k: u16, n: u16) {
+    numbered(rt, b"key |constraint |binding ", k, n);
 }
 
-fn schema_head(image: &[u8], at: Layout, s: u16)
+fn schema_head(rt: &impl Output, image: &[u8], at: Layout, s: u16)
     requires { Laid image.now at }
 {
     let k = word_of(schema_count(schemas_of(image, at)), s, false);
-    numbered(b"missing schema |schema ", k, s);
+    numbered(rt, b"missing schema |schema ", k, s);
 }
 
-fn type_head(image: &[u8], at: Layout, t: u16)
+fn type_head(rt: &impl Output, image: &[u8], at: Layout, t: u16)
     requires { Laid image.now at }
 {
     numbered(
+        rt,
         b"missing type |entity type |complex type |enumeration type |type definition |type of no kind ",
         type_word(types_of(image, at), t),
         t,
@@ -124,7 +128,7 @@ fn type_word(types: &[u8], t: u16) -> u16
     1 + type_kind(types, t)
 }
 
-fn property_head(image: &[u8], at: Layout, p: u16)
+fn property_head(rt: &impl Output, image: &[u8], at: Layout, p: u16)
     requires { Laid image.now at }
 {
     let properties = properties_of(image, at);
@@ -133,15 +137,20 @@ fn property_head(image: &[u8], at: Layout, p: u16)
         p,
         property_navigation(properties, p),
     );
-    numbered(b"missing property |property |navigation property ", k, p);
+    numbered(
+        rt,
+        b"missing property |property |navigation property ",
+        k,
+        p,
+    );
 }
 
-fn child_head(image: &[u8], at: Layout, h: u16)
+fn child_head(rt: &impl Output, image: &[u8], at: Layout, h: u16)
     requires { Laid image.now at }
 {
     let children = children_of(image, at);
     let k = word_of(child_count(children), h, child_singleton(children, h));
-    numbered(b"missing child |entity set |singleton ", k, h);
+    numbered(rt, b"missing child |entity set |singleton ", k, h);
 }
 
 // The word for record n of `count`: 0 where there is none, or else 1, or 2 where its flag is set.
@@ -155,9 +164,9 @@ fn word_of(count: u16, n: u16, flag: bool) -> u16 {
     1
 }
 
-fn segment_head(image: &[u8], at: Layout, g: u16)
+fn segment_head(rt: &impl Output, image: &[u8], at: Layout, g: u16)
     requires { Laid image.now at }
 {
     let k = segment_cast(segments_of(image, at), g) as u16;
-    numbered(b"segment |cast segment ", k, g);
+    numbered(rt, b"segment |cast segment ", k, g);
 }

@@ -5,40 +5,55 @@ ghost use Rattle.model_image.specs.Laid.{Laid};
 
 use crate::description::in_words;
 use crate::paths::{heading, place_after};
-use crate::print::{column, line_end, right, text};
+use crate::print::{Output, column, line_end, right, text};
 use csdl::{PathKind, Record};
 use model_image::layout::{Layout, names_of, properties_of, types_of};
 use model_image::texts::{property_text, type_text};
 use path_kinds::in_image::{holders_in, path_in};
 
 // The paths in image order: partners, keys, then the two paths of each constraint and of each binding.
-pub fn paths(image: &[u8], at: Layout, resolution: &[u8; sheet::RESOLUTION_SIZE])
+pub fn paths(rt: &impl Output, image: &[u8], at: Layout, resolution: &[u8; sheet::RESOLUTION_SIZE])
     requires { Laid image.now at }
 {
-    paths_of(image, at, resolution, PathKind::Partner);
-    paths_of(image, at, resolution, PathKind::Key);
+    paths_of(rt, image, at, resolution, PathKind::Partner);
+    paths_of(rt, image, at, resolution, PathKind::Key);
     two_paths_of(
+        rt,
         image,
         at,
         resolution,
         PathKind::Dependent,
         PathKind::Principal,
     );
-    two_paths_of(image, at, resolution, PathKind::Binding, PathKind::Target);
+    two_paths_of(
+        rt,
+        image,
+        at,
+        resolution,
+        PathKind::Binding,
+        PathKind::Target,
+    );
 }
 
 // For each record its path of the kind.
-fn paths_of(image: &[u8], at: Layout, resolution: &[u8; sheet::RESOLUTION_SIZE], kind: PathKind)
+fn paths_of(
+    rt: &impl Output,
+    image: &[u8],
+    at: Layout,
+    resolution: &[u8; sheet::RESOLUTION_SIZE],
+    kind: PathKind,
+)
     requires { Laid image.now at }
 {
     let n = holders_in(image, at, kind);
     for r in 0..n {
-        path(image, at, resolution, kind, r);
+        path(rt, image, at, resolution, kind, r);
     }
 }
 
 // For each record its paths of both kinds, which are kinds of one table.
 fn two_paths_of(
+    rt: &impl Output,
     image: &[u8],
     at: Layout,
     resolution: &[u8; sheet::RESOLUTION_SIZE],
@@ -49,12 +64,19 @@ fn two_paths_of(
 {
     let n = holders_in(image, at, first);
     for r in 0..n {
-        path(image, at, resolution, first, r);
-        path(image, at, resolution, second, r);
+        path(rt, image, at, resolution, first, r);
+        path(rt, image, at, resolution, second, r);
     }
 }
 
-fn path(image: &[u8], at: Layout, resolution: &[u8; sheet::RESOLUTION_SIZE], kind: PathKind, r: u16)
+fn path(
+    rt: &impl Output,
+    image: &[u8],
+    at: Layout,
+    resolution: &[u8; sheet::RESOLUTION_SIZE],
+    kind: PathKind,
+    r: u16,
+)
     requires { Laid image.now at }
 {
     let run = path_in(image, at, kind, r);
@@ -63,12 +85,13 @@ fn path(image: &[u8], at: Layout, resolution: &[u8; sheet::RESOLUTION_SIZE], kin
     if count == 0 {
         return;
     }
-    heading(image, at, kind, r);
-    line_end();
-    segments(image, at, resolution, first, count);
+    heading(rt, image, at, kind, r);
+    line_end(rt);
+    segments(rt, image, at, resolution, first, count);
 }
 
 fn segments(
+    rt: &impl Output,
     image: &[u8],
     at: Layout,
     resolution: &[u8; sheet::RESOLUTION_SIZE],
@@ -80,38 +103,38 @@ fn segments(
 {
     for k in 0..count {
         let g = first + k;
-        segment(image, at, g, packed::number_at(resolution, g));
+        segment(rt, image, at, g, packed::number_at(resolution, g));
     }
 }
 
 // A segment and what it resolves to: a property's number, or 32768 and that of a cast's type.
-fn segment(image: &[u8], at: Layout, g: u16, resolved: u16)
+fn segment(rt: &impl Output, image: &[u8], at: Layout, g: u16, resolved: u16)
     requires { Laid image.now at }
 {
-    right(place_after(at.segments_place, g));
+    right(rt, place_after(at.segments_place, g));
     if resolved < 32768 {
-        property(image, at, resolved);
+        property(rt, image, at, resolved);
     } else {
-        cast(image, at, resolved - 32768);
+        cast(rt, image, at, resolved - 32768);
     }
-    line_end();
+    line_end(rt);
 }
 
 // A name and the property that it means, which has that name, as `No   property 2 Stop/No`.
-fn property(image: &[u8], at: Layout, p: u16)
+fn property(rt: &impl Output, image: &[u8], at: Layout, p: u16)
     requires { Laid image.now at }
 {
     let names = names_of(image, at);
-    column(property_text(properties_of(image, at), names, p));
-    in_words(image, at, names, Record::OfProperty(p));
+    column(rt, property_text(properties_of(image, at), names, p));
+    in_words(rt, image, at, names, Record::OfProperty(p));
 }
 
 // A cast and its type, as `Stop   cast to entity type 1 Stop`.
-fn cast(image: &[u8], at: Layout, t: u16)
+fn cast(rt: &impl Output, image: &[u8], at: Layout, t: u16)
     requires { Laid image.now at }
 {
     let names = names_of(image, at);
-    column(type_text(types_of(image, at), names, t));
-    text(b"cast to ");
-    in_words(image, at, names, Record::OfType(t));
+    column(rt, type_text(types_of(image, at), names, t));
+    text(rt, b"cast to ");
+    in_words(rt, image, at, names, Record::OfType(t));
 }

@@ -2,26 +2,29 @@
 ghost use Rattle.model_image.specs.Laid.{Laid};
 
 use crate::description::{in_words, record};
-use crate::print::{text, word};
+use crate::print::{Output, text, word};
 use csdl::{PathKind, Record};
 use model_image::layout::{Layout, names_of};
 use path_kinds::in_image::start_in;
 
 // A path in words, as `binding 0 of entity set 0 Tours, from entity type 0 Tour`: what it is, the record that holds it and, unless
 // that is the record's owner, the type at which it starts.
-pub fn heading(image: &[u8], at: Layout, kind: PathKind, r: u16)
+pub fn heading(rt: &impl Output, image: &[u8], at: Layout, kind: PathKind, r: u16)
     requires { Laid image.now at }
 {
     let names = names_of(image, at);
-    text(word(
-        b"|partner of |dependent of |principal of |target of ",
-        role(kind),
-    ));
-    record(image, at, names, place_after(first_holder(at, kind), r));
+    text(
+        rt,
+        word(
+            b"|partner of |dependent of |principal of |target of ",
+            role(kind),
+        ),
+    );
+    record(rt, image, at, names, place_after(first_holder(at, kind), r));
     match kind {
         PathKind::Key => {}
         PathKind::Dependent => {}
-        _ => from(image, at, names, kind, r),
+        _ => from(rt, image, at, names, kind, r),
     }
 }
 
@@ -37,15 +40,15 @@ fn role(kind: PathKind) -> u16 {
 }
 
 // The type at which a path starts: a number below 64 is that of a type.
-fn from(image: &[u8], at: Layout, names: &[u8], kind: PathKind, r: u16)
+fn from(rt: &impl Output, image: &[u8], at: Layout, names: &[u8], kind: PathKind, r: u16)
     requires { Laid image.now at }
 {
-    text(b", from ");
+    text(rt, b", from ");
     let t = start_in(image, at, kind, r);
     if t < 64 {
-        in_words(image, at, names, Record::OfType(t));
+        in_words(rt, image, at, names, Record::OfType(t));
     } else {
-        text(b"a primitive type");
+        text(rt, b"a primitive type");
     }
 }
 

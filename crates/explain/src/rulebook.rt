@@ -2,27 +2,28 @@
 // rule's text stands here and nowhere else: to add a rule, write its arm. The lines are as they are printed, at most 100 bytes each; a
 // literal costs proof time by its number more than by its length, so a rule is one literal.
 
-use crate::print::text;
+use crate::print::{Output, text};
 
 // Prints a rule and its sections.
-pub fn explain(rule: u16) {
+pub fn explain(rt: &impl Output, rule: u16) {
     if rule <= 4 {
-        of_image(rule);
+        of_image(rt, rule);
     } else if rule <= 7 {
-        of_names(rule);
+        of_names(rt, rule);
     } else if rule <= 12 {
-        of_types(rule);
+        of_types(rt, rule);
     } else if rule <= 16 {
-        of_paths(rule);
+        of_paths(rt, rule);
     } else {
-        of_bindings(rule);
+        of_bindings(rt, rule);
     }
 }
 
 // Rules 1 to 4: the image and the fields of its records.
-fn of_image(rule: u16) {
+fn of_image(rt: &impl Output, rule: u16) {
     match rule {
         1 => text(
+            rt,
             b"\
 rule 1   an image has the 20 bytes of a header, which begins with the version 0402 (hexadecimal);
          each count is within its limit, and there is at least one schema;
@@ -31,18 +32,21 @@ section  none: set by document 01
 ",
         ),
         2 => text(
+            rt,
             b"\
 rule 2   the buffer for the resolution has at least two bytes for each segment
 section  none: set by document 01
 ",
         ),
         3 => text(
+            rt,
             b"\
 rule 3   every spare bit of a record is 0
 section  none: set by document 01
 ",
         ),
         4 => text(
+            rt,
             b"\
 rule 4   every number is below the count of its table;
          every name and path lies within its table;
@@ -57,9 +61,10 @@ section  none: set by document 01
 }
 
 // Rules 5 to 7: names.
-fn of_names(rule: u16) {
+fn of_names(rt: &impl Output, rule: u16) {
     match rule {
         5 => text(
+            rt,
             b"\
 rule 5   a name is 1 to 128 ASCII letters, digits and underscores, and does not begin with a digit;
          a namespace is such names joined by dots, 1 to 255 bytes
@@ -67,6 +72,7 @@ section  CSDL XML 4.02: 3.1, 15.1, 15.2; ASCII and the 255 bytes are set by docu
 ",
         ),
         6 => text(
+            rt,
             b"\
 rule 6   a namespace or alias is not Edm, odata, System or Transient;
          it is neither its schema's other name nor a namespace or alias of an earlier schema
@@ -74,6 +80,7 @@ section  CSDL XML 4.02: 5, 5.1
 ",
         ),
         7 => text(
+            rt,
             b"\
 rule 7   a type does not have the name of an earlier type of its schema;
          an entity set or singleton does not have the name of an earlier one
@@ -85,9 +92,10 @@ section  CSDL XML 4.02: 3.1, 5, 6, 9, 10, 11 for types, 13 for entity sets and s
 }
 
 // Rules 8 to 12: types and their properties.
-fn of_types(rule: u16) {
+fn of_types(rt: &impl Output, rule: u16) {
     match rule {
         8 => text(
+            rt,
             b"\
 rule 8   a base is of the type's own kind;
          an enumeration or type definition has no base and no flag (abstract, open, media);
@@ -101,12 +109,14 @@ section  CSDL XML 4.02: 6.1 to 6.4, 9, 9.1, 9.3, 10, 10.1, 11, 11.1; set by docu
 ",
         ),
         9 => text(
+            rt,
             b"\
 rule 9   a type is not its own ancestor (ancestors are its base, that base's base, and so on)
 section  CSDL XML 4.02: 6.1, 9.1
 ",
         ),
         10 => text(
+            rt,
             b"\
 rule 10  the owner of a property is an entity or complex type;
          a navigation property goes to an entity type;
@@ -118,6 +128,7 @@ section  CSDL XML 4.02: 3.3, 7, 7.1, 8, 8.1 to 8.4
 ",
         ),
         11 => text(
+            rt,
             b"\
 rule 11  a property does not have the name of an earlier property of its owner;
          it has the name of an ancestor's property only if both or neither navigate, its type
@@ -126,6 +137,7 @@ section  CSDL XML 4.02: 6, 7, 8, 9; that the two agree is set by document 01
 ",
         ),
         12 => text(
+            rt,
             b"\
 rule 12  a type does not reach itself in one or more steps;
          a step goes to the type of a single, not nullable, complex or containment property of the
@@ -138,15 +150,17 @@ section  CSDL XML 4.02: 3.2, 7.1, 8.1
 }
 
 // Rules 13 to 16: segments, keys and constraints.
-fn of_paths(rule: u16) {
+fn of_paths(rt: &impl Output, rule: u16) {
     match rule {
         13 => text(
+            rt,
             b"\
 rule 13  every segment is in exactly one path
 section  none: set by document 01
 ",
         ),
         14 => text(
+            rt,
             b"\
 rule 14  every segment resolves;
          a name needs a structured type that has a property of that name, its own or an ancestor's;
@@ -156,6 +170,7 @@ section  CSDL XML 4.02: 14.4.1.1, for paths by 6.5, 8.3, 8.5, 13.4.1 and 13.4.2;
 ",
         ),
         15 => text(
+            rt,
             b"\
 rule 15  a key is of an entity type, none of whose ancestors has keys;
          its path has no cast;
@@ -169,6 +184,7 @@ section  CSDL XML 4.02: 6.5, 9
 ",
         ),
         16 => text(
+            rt,
             b"\
 rule 16  a constraint is of a single navigation property;
          its paths have no cast;
@@ -183,9 +199,10 @@ section  CSDL XML 4.02: 8.5; that the last step is structural is set by document
 }
 
 // Rules 17 to 19: partners, entity sets, singletons and bindings.
-fn of_bindings(rule: u16) {
+fn of_bindings(rt: &impl Output, rule: u16) {
     match rule {
         17 => text(
+            rt,
             b"\
 rule 17  the last step of a partner path, and no earlier one, is a navigation property: the partner;
          the partner goes to the owner of this property or to an ancestor of the owner;
@@ -197,6 +214,7 @@ section  CSDL XML 4.02: 8.3, 8.4
 ",
         ),
         18 => text(
+            rt,
             b"\
 rule 18  an entity set or contained collection is of a type with a key, its own or an ancestor's;
          an entity set or singleton is of an entity type;
@@ -205,6 +223,7 @@ section  CSDL XML 4.02: 6.5, 8.1, 8.4, 13.2, 13.3
 ",
         ),
         19 => text(
+            rt,
             b"\
 rule 19  a binding path has a name;
          its last name (casts may follow) is a navigation property without containment;

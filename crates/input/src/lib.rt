@@ -12,6 +12,9 @@ use std::{fs, io};
 // A byte more than the largest image of a model, so that one that is too long is seen to be.
 pub const IMAGE_SIZE: usize = 13349;
 
+// The bytes of the longest path of the system, with the 0 that ends it.
+pub const NAME_SIZE: usize = 4096;
+
 // What was read: how many bytes, if every read succeeded.
 #[derive(Clone, Copy)]
 pub struct Input {
@@ -102,7 +105,7 @@ pub fn read_image(
 }
 
 // Opens the file that a name names.
-fn open<R: Files>(rt: &R, name: &[u8]) -> io::Result<R::File> {
+pub fn open<R: Files>(rt: &R, name: &[u8]) -> io::Result<R::File> {
     match str::from_utf8(name) {
         Ok(path) => fs::open(rt, path),
         Err(_) => Err(io::Error::new(ErrorKind::InvalidFilename, "file name is not UTF-8 text")),

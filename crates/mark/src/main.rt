@@ -2,59 +2,71 @@
 // For more than one argument each sheet stands under a line with its name. What cannot be read gets no sheet.
 #![tactic(auto)]
 
+use std::io;
+use std::rt::{Env, Files};
+
 // Writes the bytes, in one call where the system takes them all, and answers whether it did; a failure is named on standard error.
-fn written(text: &[u8]) -> bool {
-    if io::write_all(libc::STDOUT_FILENO, text) {
-        return true;
+fn written(rt: &(impl Print + Eprint + Alloc), text: &[u8]) -> bool {
+    match rt.write_all(text) {
+        Ok(()) => true,
+        Err(error) => {
+            input::fail(rt, b"standard output", error);
+            false
+        }
     }
-    os::fail(b"standard output");
-    false
 }
 
-fn heading(name: &[u8]) -> bool {
-    written(b"== ") && written(name) && written(b"\n")
+fn heading(rt: &(impl Print + Eprint + Alloc), name: &[u8]) -> bool {
+    written(rt, b"== ") && written(rt, name) && written(rt, b"\n")
 }
 
-fn print_sheet(image: &[u8]) {
+fn print_sheet(rt: &(impl Print + Eprint + Alloc), image: &[u8]) {
     let mut text = [0u8; sheet::SHEET_SIZE];
     let n = sheet::mark_sheet(image, &mut text);
-    written(&text[..n]);
+    written(rt, &text[..n]);
 }
 
-fn mark_input() {
+fn mark_input(rt: &(impl Print + Eprint + Alloc + io::Input)) {
     let mut image = [0u8; input::IMAGE_SIZE];
-    let read = input::read_image(libc::STDIN_FILENO, b"standard input", &mut image);
+    let read = input::read_image(rt, &mut rt.reader(), b"standard input", &mut image);
     let n = read.size;
     if read.whole {
-        print_sheet(&image[..n]);
+        print_sheet(rt, &image[..n]);
     }
 }
 
-fn mark_argument(i: usize, several: bool) {
-    let mut name = io::buffer();
+fn mark_argument(
+    rt: &(impl Print + Eprint + Alloc + io::Input + Files + Env),
+    i: usize,
+    several: bool,
+) {
+    let mut name = [0u8; input::NAME_SIZE];
     let mut image = [0u8; input::IMAGE_SIZE];
-    let read = input::read_argument(i, &mut name, &mut image);
+    let read = input::read_argument(rt, i, &mut name, &mut image);
     if !read.whole {
         return;
     }
     let n = read.size;
     if !several {
-        print_sheet(&image[..n]);
+        print_sheet(rt, &image[..n]);
         return;
     }
     let k = read.name;
-    if heading(&name[..k]) {
-        print_sheet(&image[..n]);
+    if heading(rt, &name[..k]) {
+        print_sheet(rt, &image[..n]);
     }
 }
 
-fn main() {
-    let n = os::arg_count();
-    if n < 2 {
-        mark_input();
+fn main(rt: HostRuntime) {
+    if !input::has_argument(&rt, 1) {
+        mark_input(&rt);
         return;
     }
-    for i in 1..n {
-        mark_argument(i, 2 < n);
+    let several = input::has_argument(&rt, 2);
+    for i in 1..usize::MAX {
+        if !input::has_argument(&rt, i) {
+            break;
+        }
+        mark_argument(&rt, i, several);
     }
 }
