@@ -16,7 +16,7 @@ pub loop-v-preserved : goal.loop-v-preserved
 loop-v-preserved c = (
       search rules,
       search rules,
-      first_down (λ u. node_slots_in c.args.nodes.now u) (node_count c.args.nodes.now) 1024 (c.loop-v.v - 1) c.loop-v.v _ _ (omega arith) c.node_slots-run.ensures.0 c.node_slots-run.ensures.1 c.loop-v.array c.put_run.new.0 (omega arith) _
+      first_down (λ u. node_slots_in c.args.nodes.now u) (node_count c.args.nodes.now) 1024 (c.loop-v.v - 1) c.loop-v.v _ _ (omega arith) c.node_slots-run.ensures.0 c.node_slots-run.ensures.1 c.loop-v.array c.put_run.new.array (omega arith) _
           refl c.loop-v.invariant.2 c.put_run.ensures,
     )
 

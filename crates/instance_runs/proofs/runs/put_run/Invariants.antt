@@ -7,7 +7,7 @@ use Rattle.instance_runs.proofs.Fills.{Partly, partly_start, partly_more, partly
 use Rattle.instance_runs.proofs.runs.put_run.Given as goal
 
 abbrev pub invariant-loop-k : goal.invariant-loop-k
-invariant-loop-k l = (l.count ≤ l.k) × (l.k ≤ l.count + l.x) × (l.initial.array ≡ min (l.count + l.x) (length l.first)) × Partly (λ y. l.end) l.count l.k l.first l.array
+invariant-loop-k l = (l.first ≤ l.k) × (l.k ≤ l.first + l.count) × (l.end ≡ min (l.first + l.count) (length l.initial.array)) × Partly (λ y. l.x) l.first l.k l.initial.array l.array
 
 abbrev pub decreases-loop-k : goal.decreases-loop-k
-decreases-loop-k l = l.initial.array - l.k
+decreases-loop-k l = l.end - l.k

@@ -16,7 +16,7 @@ pub loop-s-preserved : goal.loop-s-preserved
 loop-s-preserved c = (
       search rules,
       search rules,
-      count_down (λ u. slot_items_in c.args.slots.now u) (slot_count c.args.slots.now) 2048 (c.loop-s.s - 1) c.loop-s.s _ _ (omega arith) c.slot_items-run.ensures.0 c.slot_items-run.ensures.1 c.loop-s.array c.add_run.new.0 (omega arith)
+      count_down (λ u. slot_items_in c.args.slots.now u) (slot_count c.args.slots.now) 2048 (c.loop-s.s - 1) c.loop-s.s _ _ (omega arith) c.slot_items-run.ensures.0 c.slot_items-run.ensures.1 c.loop-s.array c.add_run.new.array (omega arith)
           c.loop-s.invariant.2 c.add_run.ensures,
     )
 
