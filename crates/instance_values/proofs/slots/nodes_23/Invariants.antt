@@ -16,17 +16,6 @@ use Rattle.name_classes.specs.Classes.{name_of, Ranked}
 use Rattle.instance_values.specs.Rows.{Rows}
 use Rattle.instance_values.proofs.Slotted.{rows_start, row_made, row_kept, row_past, row_23}
 use borrow.Author.Rules.{rules}
-use Rattle.instance_values.proofs.slots.nodes_23.Reads as reads
-use Rattle.instance_values.proofs.slots.nodes_23.Lts as lts
-use Rattle.instance_image.proofs.fields.node_count.Reads as node-count-reads
-use Rattle.model_image.proofs.properties.property_count.Reads as property-count-reads
-use Rattle.instance_image.proofs.fields.node_type.Reads as node-type-reads
-use Rattle.type_hierarchy.proofs.type_sets.in_set.Reads as in-set-reads
-use Rattle.type_names.proofs.members.names_of.Reads as names-of-reads
-use Rattle.type_names.proofs.wide.with_row.Reads as with-row-reads
-use Rattle.type_hierarchy.proofs.type_sets.with_one.Reads as with-one-reads
-use Rattle.instance_image.proofs.fields.node_slots.Reads as node-slots-reads
-use Rattle.instance_values.proofs.slots.unlike_run.Reads as unlike-run-reads
 use Rattle.instance_values.proofs.slots.nodes_23.Given as goal
 
 abbrev pub invariant-loop-v : goal.invariant-loop-v

@@ -1,13 +1,13 @@
 use Prim.Native.Nat.{ℕ, ◌+◌, ◌-◌, ◌≤◌, ◌<◌}
 use mathlib.Core.Path.{◌≡◌}
 use mathlib.Core.Bool.{false}
-use mathlib.Core.Logic.{⊎_elim}
 use native.Mathlib.Omega.{arith}
 use lib.ListN.{length}
 use Rattle.type_names.specs.Wide.{wide}
 use Rattle.instance_values.proofs.Slotted.{Slotted, slotted_start, slotted_past, slotted_wrong, slotted_more, slotted_end}
 use borrow.Author.Rules.{rules}
 use Rattle.instance_values.proofs.slots.unlike_run.Goals as goal
+use Rattle.instance_values.proofs.slots.unlike_run.Goals.{then-p-n+else-in_wide, else-p-n}
 
 pub loop-done-init : goal.loop-done-init
 loop-done-init c = (c.requires.4, c.requires.1, slotted_start _ _ _ _ _ _ _ _, c.requires.0, c.requires.2, c.requires.3)
@@ -28,10 +28,9 @@ pub loop-done-preserved : goal.loop-done-preserved
 loop-done-preserved c = (
       c.loop-done.invariant.0,
       c.loop-done.invariant.1,
-      ⊎_elim
-          (λ w. rw w.6 (slotted_more _ _ _ _ _ _ _ _ _ _ c.loop-done.invariant.2 c.loop-done-test.true _ c.slot_property-p.ensures.0 w.0.taken _ _ w.1.ensures w.3.ensures w.4.left _ w.5.ensures.0 w.5.ensures.1))
-          (λ w. rw w.1 (slotted_past _ _ _ _ _ _ _ _ _ _ c.loop-done.invariant.2 c.loop-done-test.true _ c.slot_property-p.ensures.0 w.0.left))
-          c.if-p-n.branch,
+      elim c.if-p-n.branch
+          [ then-p-n+else-in_wide w ↦ rw w.seen-is (slotted_more _ _ _ _ _ _ _ _ _ _ c.loop-done.invariant.2 c.loop-done-test.true _ c.slot_property-p.ensures.0 w.if-p-n.true _ _ w.in_wide.ensures w.in_wide-then-p-n.ensures w.if-in_wide.false _ w.with_wide-next.ensures.0 w.with_wide-next.ensures.1)
+          | else-p-n w ↦ rw w.seen-is (slotted_past _ _ _ _ _ _ _ _ _ _ c.loop-done.invariant.2 c.loop-done-test.true _ c.slot_property-p.ensures.0 w.if-p-n.false) ],
       c.loop-done.invariant.3,
       c.loop-done.invariant.4,
       c.loop-done.invariant.5,
