@@ -20,7 +20,7 @@ returns-then-any_twice c = let to = entry c.args.to.now in
 
 pub returns : goal.returns
 unfolding node26_in
-returns c = let from = node_in c.args.item-slots.now c.args.slot-nodes.now in
+returns c = let from = node_in c.args.item_slots.now c.args.slot_nodes.now in
     let to = entry c.args.to.now in
     (
       c.first_by_climbs.ensures.0

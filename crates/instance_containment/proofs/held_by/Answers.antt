@@ -14,7 +14,7 @@ use Rattle.instance_containment.proofs.held_by.Goals as goal
 pub returns-then-not-inside : goal.returns-then-not-inside
 unfolding instance_of held_if
 returns-then-not-inside c = let i = instance_of c.args.nodes.now [] c.args.items.now in
-    rw (not-true c.args.inside c.if-not-inside.true, and-false (ltb (i.item_handle c.args.k) i.nodes && not (is_null i c.args.k)))
+    rw (c.if-not-inside.true, and-false (ltb (i.item_handle c.args.k) i.nodes && not (is_null i c.args.k)))
 
 pub returns-then-handle-node_count : goal.returns-then-handle-node_count
 unfolding instance_of held_if
@@ -28,4 +28,4 @@ returns-then-is_null c = let n = c.is_null.ensures ∙ null_frame [] [] [] [] []
 pub returns : goal.returns
 unfolding instance_of held_if
 returns c = let n = c.is_null.ensures ∙ null_frame [] [] [] [] [] [] [] [] [] c.args.nodes.now [] c.args.items.now c.args.k in
-    rw (← n, ← c.item_handle-handle.ensures.0, ← c.node_count.ensures.0, lt-ltb _ _ c.if-handle-node_count.false, c.if-is_null.false, not-false c.args.inside c.if-not-inside.false) (add-one _)
+    rw (← n, ← c.item_handle-handle.ensures.0, ← c.node_count.ensures.0, lt-ltb _ _ c.if-handle-node_count.false, c.if-is_null.false, c.if-not-inside.false) (add-one _)

@@ -11,8 +11,8 @@ use Rattle.instance_containment.proofs.Bridge.{fill_more, held_same_tables}
 use Rattle.instance_containment.proofs.held_nodes.Given as goal
 
 abbrev pub invariant-loop-k : goal.invariant-loop-k
-invariant-loop-k l = (l.k ≤ l.initial.array) × (l.initial.array ≤ 2048) × (length l.types ≤ 384) × (length l.properties ≤ 3584) × (length l.nodes ≤ 1024) × (length l.array ≡ 2048)
+invariant-loop-k l = (l.k ≤ l.n) × (l.n ≤ 2048) × (length l.types ≤ 384) × (length l.properties ≤ 3584) × (length l.nodes ≤ 1024) × (length l.array ≡ 2048)
     × ((w : ℕ) → w < l.k → get_or l.array w 0 ≡ held_by (model_of [] l.types l.properties [] [] [] [] [] []) (instance_of l.nodes l.slots l.items) w)
 
 abbrev pub decreases-loop-k : goal.decreases-loop-k
-decreases-loop-k l = l.initial.array - l.k
+decreases-loop-k l = l.n - l.k

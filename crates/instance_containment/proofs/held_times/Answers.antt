@@ -18,7 +18,7 @@ pub loop-k-preserved : goal.loop-k-preserved
 loop-k-preserved c = (
       search rules,
       count_down (λ u. held_run (entry c.args.to.now) u) c.args.c 256 (c.loop-k.k - 1) c.loop-k.k _ _ (omega arith) (c.less_one.ensures ∙ ap (λ (x : ℕ). x - 1) c.read_at-w.ensures)
-          (c.one_if.ensures ∙ ap (λ (x : ℕ). one_if (not (eqb x 0))) c.read_at-w.ensures) c.loop-k.array c.add_run.new.0 (omega arith) c.loop-k.invariant.1 c.add_run.ensures,
+          (c.one_if.ensures ∙ ap (λ (x : ℕ). one_if (not (eqb x 0))) c.read_at-w.ensures) c.loop-k.array c.add_run.new.array (omega arith) c.loop-k.invariant.1 c.add_run.ensures,
     )
 
 pub returns : goal.returns

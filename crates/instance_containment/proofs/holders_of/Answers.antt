@@ -18,10 +18,10 @@ pub loop-k-preserved : goal.loop-k-preserved
 loop-k-preserved c = let to = entry c.args.to.now in
     (
       search rules,
-      latest_down (λ u. held_run to u) (λ u. node_in c.args.item-slots.now c.args.slot-nodes.now u) c.args.c 256 (c.loop-k.k - 1) c.loop-k.k _ _ (omega arith)
+      latest_down (λ u. held_run to u) (λ u. node_in c.args.item_slots.now c.args.slot_nodes.now u) c.args.c 256 (c.loop-k.k - 1) c.loop-k.k _ _ (omega arith)
           (c.less_one.ensures ∙ ap (λ (x : ℕ). x - 1) c.read_at-w.ensures) (c.one_if.ensures ∙ ap (λ (x : ℕ). one_if (not (eqb x 0))) c.read_at-w.ensures) c.loop-k.array
-          c.put_run.new.0 (omega arith) _ c.node_of.ensures c.loop-k.invariant.1 c.put_run.ensures,
+          c.put_run.new.array (omega arith) _ c.node_of.ensures c.loop-k.invariant.1 c.put_run.ensures,
     )
 
 pub returns : goal.returns
-returns c = latest_all _ _ _ _ c.loop-k.k _ _ (omega arith) (λ w. holder_run (node_in c.args.item-slots.now c.args.slot-nodes.now) (entry c.args.to.now) w c.args.c 0) c.loop-k.invariant.1
+returns c = latest_all _ _ _ _ c.loop-k.k _ _ (omega arith) (λ w. holder_run (node_in c.args.item_slots.now c.args.slot_nodes.now) (entry c.args.to.now) w c.args.c 0) c.loop-k.invariant.1

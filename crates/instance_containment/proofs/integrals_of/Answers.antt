@@ -13,6 +13,7 @@ use Rattle.type_names.specs.Wide.{MembersWide}
 use Rattle.type_names.proofs.WideLaws.{wide-none, below_with, below_without, below_none}
 use borrow.Author.Rules.{rules}
 use Rattle.instance_containment.proofs.integrals_of.Goals as goal
+use Rattle.instance_containment.proofs.integrals_of.Goals.{then-integral, else-integral}
 
 pub loop-p-init : goal.loop-p-init
 loop-p-init c = (
@@ -27,10 +28,9 @@ loop-p-init c = (
 pub loop-p-preserved : goal.loop-p-preserved
 loop-p-preserved c = let test : ℕ → Bool = (λ q. integral (model_of [] c.args.types.now c.args.properties.now [] [] [] [] [] []) q) in
     let s : (length c.if-integral.set ≡ 8) × MembersWide c.if-integral.set 0 (λ q. ltb q (c.loop-p.p + 1) && test q) =
-    ⊎_elim
-    (λ w. rw w.2 (w.1.ensures.0, λ q h. w.1.ensures.1 q h ∙ rw (c.loop-p.invariant.5 q h) (below_with test c.loop-p.p q (sym c.integral.ensures ∙ w.0.taken))))
-    (λ w. rw w.1 (c.loop-p.invariant.4, λ q h. c.loop-p.invariant.5 q h ∙ below_without test c.loop-p.p q (sym c.integral.ensures ∙ w.0.left)))
-    c.if-integral.branch in
+        elim c.if-integral.branch
+        [ then-integral w ↦ rw w.set-is (w.with_wide-next.ensures.0, λ q h. w.with_wide-next.ensures.1 q h ∙ rw (c.loop-p.invariant.5 q h) (below_with test c.loop-p.p q (sym c.integral.ensures ∙ w.if-integral.true)))
+        | else-integral w ↦ rw w.set-is (c.loop-p.invariant.4, λ q h. c.loop-p.invariant.5 q h ∙ below_without test c.loop-p.p q (sym c.integral.ensures ∙ w.if-integral.false)) ] in
     (search rules, search rules, c.loop-p.invariant.2, search rules, s.0, s.1)
 
 pub returns : goal.returns

@@ -12,4 +12,4 @@ returns-then-slot-eq0 c = rw (← c.read_at-slot.ensures, c.if-slot-eq0.true)
 
 pub returns : goal.returns
 unfolding node_in
-returns c = rw (← c.read_at-slot.ensures, found_test 0 (λ (s : ℕ). get_or c.args.slot-nodes.now s 0) c.read_at-slot.result, ne_eqb c.read_at-slot.result 0 c.if-slot-eq0.false) c.read_at.ensures
+returns c = rw (← c.read_at-slot.ensures, found_test 0 (λ (s : ℕ). get_or c.args.slot_nodes.now s 0) c.read_at-slot.result, ne_eqb c.read_at-slot.result 0 c.if-slot-eq0.false) c.read_at.ensures

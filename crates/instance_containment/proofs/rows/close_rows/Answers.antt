@@ -11,7 +11,7 @@ pub loop-c-init : goal.loop-c-init
 loop-c-init c = (search rules, search rules, search rules, reached_start _ _)
 
 pub loop-c-preserved : goal.loop-c-preserved
-loop-c-preserved c = (search rules, search rules, c.go_through.ensures.size, reached_more c.args.n 256 c.loop-c.c (in_row c.args.rows.now) (in_row c.loop-c.rows) (in_row c.go_through.new.0) (omega arith) (omega arith) c.loop-c.invariant.3 (record { row = c.go_through.ensures.row }))
+loop-c-preserved c = (search rules, search rules, c.go_through.ensures.size, reached_more c.args.n 256 c.loop-c.c (in_row c.args.rows.now) (in_row c.loop-c.rows) (in_row c.go_through.new.rows) (omega arith) (omega arith) c.loop-c.invariant.3 (record { row = c.go_through.ensures.row }))
 
 pub shape_of-rows : goal.shape_of-rows
 shape_of-rows c = c.loop-c.invariant.2 ∙ sym c.requires.0

@@ -8,7 +8,7 @@ use Rattle.type_hierarchy.proofs.Closing.{Reached, reached_start, reached_more, 
 use Rattle.instance_containment.proofs.rows.close_rows.Given as goal
 
 abbrev pub invariant-loop-c : goal.invariant-loop-c
-invariant-loop-c l = (l.c ≤ l.initial.rows) × (l.initial.rows ≤ 256) × (length l.rows ≡ 1024) × Reached l.initial.rows l.c (in_row l.n) (in_row l.rows)
+invariant-loop-c l = (l.c ≤ l.n) × (l.n ≤ 256) × (length l.rows ≡ 1024) × Reached l.n l.c (in_row l.initial.rows) (in_row l.rows)
 
 abbrev pub decreases-loop-c : goal.decreases-loop-c
-decreases-loop-c l = l.initial.rows - l.c
+decreases-loop-c l = l.n - l.c

@@ -25,7 +25,7 @@ first_in_rows-requires c = (c.close_rows.ensures.size, c.requires)
 
 pub returns : goal.returns
 unfolding within_in
-returns c = let step : ℕ → ℕ → Bool = step_in (node_in c.args.item-slots.now c.args.slot-nodes.now) (entry c.args.to.now) c.args.c in
+returns c = let step : ℕ → ℕ → Bool = step_in (node_in c.args.item_slots.now c.args.slot_nodes.now) (entry c.args.to.now) c.args.c in
     (
       c.first_in_rows.ensures.0
           ∙ first-same _ _ 0 c.args.n

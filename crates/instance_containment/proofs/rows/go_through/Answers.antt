@@ -11,7 +11,7 @@ pub loop-v-init : goal.loop-v-init
 loop-v-init c = (search rules, search rules, search rules, search rules, going_start _ _ _)
 
 pub loop-v-preserved : goal.loop-v-preserved
-loop-v-preserved c = (search rules, search rules, search rules, c.pass.ensures.size, going_more 256 c.loop-v.v c.args.c (in_row c.args.rows.now) (in_row c.loop-v.rows) c.loop-v.invariant.4 (in_row c.pass.new.0) (omega arith) c.pass.ensures.here c.pass.ensures.other)
+loop-v-preserved c = (search rules, search rules, search rules, c.pass.ensures.size, going_more 256 c.loop-v.v c.args.c (in_row c.args.rows.now) (in_row c.loop-v.rows) c.loop-v.invariant.4 (in_row c.pass.new.rows) (omega arith) c.pass.ensures.here c.pass.ensures.other)
 
 pub shape_of-rows : goal.shape_of-rows
 shape_of-rows c = c.loop-v.invariant.3 ∙ sym c.requires.0

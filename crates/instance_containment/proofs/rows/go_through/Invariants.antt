@@ -8,7 +8,7 @@ use Rattle.type_hierarchy.proofs.Closing.{Going, going_start, going_more, going_
 use Rattle.instance_containment.proofs.rows.go_through.Given as goal
 
 abbrev pub invariant-loop-v : goal.invariant-loop-v
-invariant-loop-v l = (l.v ≤ l.c) × (l.c ≤ 256) × (l.initial.rows < l.c) × (length l.rows ≡ 1024) × Going 256 l.v l.initial.rows (in_row l.n) (in_row l.rows)
+invariant-loop-v l = (l.v ≤ l.n) × (l.n ≤ 256) × (l.c < l.n) × (length l.rows ≡ 1024) × Going 256 l.v l.c (in_row l.initial.rows) (in_row l.rows)
 
 abbrev pub decreases-loop-v : goal.decreases-loop-v
-decreases-loop-v l = l.c - l.v
+decreases-loop-v l = l.n - l.v

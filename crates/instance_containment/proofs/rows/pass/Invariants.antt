@@ -9,7 +9,7 @@ use Rattle.instance_containment.proofs.RowLaws.{Joining, joining_start, joining_
 use Rattle.instance_containment.proofs.rows.pass.Given as goal
 
 abbrev pub invariant-loop-j : goal.invariant-loop-j
-invariant-loop-j l = (l.j ≤ 4) × (l.c < 256) × (l.to < 256) × (l.from ≡ 4 * l.c) × (l.initial.rows ≡ 4 * l.to) × (length l.rows ≡ 1024) × (in_row l.v l.c l.to ≡ true) × Joining l.c l.to l.v l.rows l.j
+invariant-loop-j l = (l.j ≤ 4) × (l.v < 256) × (l.c < 256) × (l.to ≡ 4 * l.v) × (l.from ≡ 4 * l.c) × (length l.rows ≡ 1024) × (in_row l.initial.rows l.v l.c ≡ true) × Joining l.v l.c l.initial.rows l.rows l.j
 
 abbrev pub decreases-loop-j : goal.decreases-loop-j
 decreases-loop-j l = 4 - l.j

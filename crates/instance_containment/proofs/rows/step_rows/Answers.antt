@@ -19,8 +19,8 @@ put_step-requires c = c.loop-k.invariant.1.size
 pub loop-k-preserved : goal.loop-k-preserved
 loop-k-preserved c = (
       search rules,
-      from_more (node_in c.args.item-slots.now c.args.slot-nodes.now) (entry c.args.to.now) c.args.c (c.loop-k.k - 1) c.loop-k.k _ _ c.loop-k.rows c.put_step.new.0 (omega arith) (omega arith) c.node_of.ensures c.read_at.ensures c.loop-k.invariant.1 c.put_step.ensures,
+      from_more (node_in c.args.item_slots.now c.args.slot_nodes.now) (entry c.args.to.now) c.args.c (c.loop-k.k - 1) c.loop-k.k _ _ c.loop-k.rows c.put_step.new.rows (omega arith) (omega arith) c.node_of.ensures c.read_at.ensures c.loop-k.invariant.1 c.put_step.ensures,
     )
 
 pub returns : goal.returns
-returns c = from_end_lem (node_in c.args.item-slots.now c.args.slot-nodes.now) (entry c.args.to.now) c.args.c c.loop-k.k c.loop-k.rows (omega arith) c.loop-k.invariant.1
+returns c = from_end_lem (node_in c.args.item_slots.now c.args.slot_nodes.now) (entry c.args.to.now) c.args.c c.loop-k.k c.loop-k.rows (omega arith) c.loop-k.invariant.1

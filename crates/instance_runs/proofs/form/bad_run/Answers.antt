@@ -1,5 +1,4 @@
 use borrow.Author.Tests.{eq-eqb, ne_eqb}
-use borrow.Author.Rules.{rules}
 use Rattle.instance_runs.proofs.form.bad_run.Goals as goal
 
 pub returns-then-count-eq0 : goal.returns-then-count-eq0

@@ -2,9 +2,7 @@ use Prim.Native.Nat.{◌-◌, ◌≤◌}
 use mathlib.Core.List.{[]}
 use Rattle.csdl.specs.Instance.{instance_of}
 use Rattle.csdl.specs.Conforms.{item21c}
-use Rattle.csdl.proofs.Loops.{First, first}
-use borrow.Author.Rules.{rules}
-use Rattle.instance_runs.proofs.Fills.{tabulates}
+use Rattle.csdl.proofs.Loops.{First}
 use Rattle.instance_runs.proofs.form.first_item_21.Given as goal
 
 abbrev pub invariant-loop-k : goal.invariant-loop-k

@@ -1,10 +1,4 @@
-use Prim.Native.Nat.{◌-◌, ◌≤◌}
-use mathlib.Core.List.{[]}
-use lib.ListN.{length}
-use Rattle.csdl.specs.Model.{model_of}
-use Rattle.csdl.specs.Instance.{instance_of}
-use Rattle.csdl.specs.Conforms.{node21a}
-use Rattle.csdl.proofs.Loops.{First, first}
+use Rattle.csdl.proofs.Loops.{first}
 use borrow.Author.Rules.{rules}
 use Rattle.instance_runs.proofs.form.first_node_21.Goals as goal
 

@@ -4,8 +4,7 @@ use lib.ListN.{length}
 use Rattle.csdl.specs.Model.{model_of}
 use Rattle.csdl.specs.Instance.{instance_of}
 use Rattle.csdl.specs.Conforms.{node21a}
-use Rattle.csdl.proofs.Loops.{First, first}
-use borrow.Author.Rules.{rules}
+use Rattle.csdl.proofs.Loops.{First}
 use Rattle.instance_runs.proofs.form.first_node_21.Given as goal
 
 abbrev pub invariant-loop-v : goal.invariant-loop-v

@@ -4,9 +4,7 @@ use lib.ListN.{length}
 use Rattle.csdl.specs.Model.{model_of}
 use Rattle.csdl.specs.Instance.{instance_of}
 use Rattle.csdl.specs.Conforms.{slot21b}
-use Rattle.csdl.proofs.Loops.{First, first}
-use borrow.Author.Rules.{rules}
-use Rattle.instance_runs.proofs.Fills.{tabulates}
+use Rattle.csdl.proofs.Loops.{First}
 use Rattle.instance_runs.proofs.form.first_slot_21.Given as goal
 
 abbrev pub invariant-loop-s : goal.invariant-loop-s

@@ -1,6 +1,5 @@
 use Rattle.csdl.specs.Conforms.{item21c}
 use Rattle.instance_runs.proofs.Counts.{two_one}
-use borrow.Author.Rules.{rules}
 use Rattle.instance_runs.proofs.form.item_21.Goals as goal
 
 pub returns : goal.returns

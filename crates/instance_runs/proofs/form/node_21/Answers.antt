@@ -1,7 +1,6 @@
 use Rattle.csdl.specs.Model.{model_of}
 use Rattle.csdl.specs.Instance.{instance_of}
 use Rattle.csdl.specs.Conforms.{node21a}
-use borrow.Author.Rules.{rules}
 use Rattle.instance_runs.proofs.form.node_21.Goals as goal
 
 pub returns : goal.returns

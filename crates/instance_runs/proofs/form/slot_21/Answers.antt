@@ -3,7 +3,6 @@ use Rattle.csdl.specs.Instance.{instance_of}
 use Rattle.csdl.specs.Conforms.{slot21b, count_unlike, nodes_with}
 use Rattle.instance_runs.specs.Clauses.{slot_form}
 use Rattle.instance_runs.proofs.Counts.{two_one}
-use borrow.Author.Rules.{rules}
 use Rattle.instance_runs.proofs.form.slot_21.Goals as goal
 
 pub returns : goal.returns

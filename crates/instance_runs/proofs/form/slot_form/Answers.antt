@@ -2,7 +2,6 @@ use Rattle.csdl.specs.Model.{model_of}
 use Rattle.csdl.specs.Instance.{instance_of}
 use Rattle.csdl.specs.Conforms.{count_unlike}
 use Rattle.instance_runs.specs.Clauses.{slot_form}
-use borrow.Author.Rules.{rules}
 use Rattle.instance_runs.proofs.form.slot_form.Goals as goal
 
 pub returns : goal.returns

@@ -1,10 +1,8 @@
-use Prim.Native.Nat.{◌+◌, ◌-◌, ◌≤◌, min}
-use mathlib.Core.Path.{◌≡◌}
+use Prim.Native.Nat.{◌+◌}
 use native.Mathlib.Omega.{arith}
 use borrow.Author.Rules.{rules}
-use lib.ListN.{length}
 use Rattle.instance_runs.specs.Tables.{to_two}
-use Rattle.instance_runs.proofs.Fills.{Partly, partly_start, partly_more, partly_all}
+use Rattle.instance_runs.proofs.Fills.{partly_start, partly_more, partly_all}
 use Rattle.instance_runs.proofs.runs.add_run.Goals as goal
 
 pub loop-k-init : goal.loop-k-init
@@ -12,12 +10,12 @@ loop-k-init c = (search rules, search rules, search rules, partly_start _ _ _)
 
 pub loop-k-preserved : goal.loop-k-preserved
 loop-k-preserved c = (
-      search rules,
-      search rules,
-      search rules,
-      partly_more (λ y. to_two (y + 1)) c.args.first c.loop-k.k c.one_more.result c.args.array.now c.loop-k.array c.loop-k.invariant.3 c.loop-k.invariant.0 (omega arith)
-          c.one_more.ensures,
-    )
+  search rules,
+  search rules,
+  search rules,
+  partly_more (λ y. to_two (y + 1)) c.args.first c.loop-k.k c.one_more.result c.args.array.now c.loop-k.array c.loop-k.invariant.3 c.loop-k.invariant.0 (omega arith)
+      c.one_more.ensures,
+)
 
 pub returns : goal.returns
 returns c = partly_all (λ y. to_two (y + 1)) c.args.first c.args.count c.loop-k.k c.args.array.now c.loop-k.array c.loop-k.invariant.3 c.loop-k.invariant.1 (omega arith)

@@ -1,10 +1,8 @@
 use Prim.Native.Nat.{◌+◌, ◌-◌, ◌≤◌, min}
 use mathlib.Core.Path.{◌≡◌}
-use native.Mathlib.Omega.{arith}
-use borrow.Author.Rules.{rules}
 use lib.ListN.{length}
 use Rattle.instance_runs.specs.Tables.{to_two}
-use Rattle.instance_runs.proofs.Fills.{Partly, partly_start, partly_more, partly_all}
+use Rattle.instance_runs.proofs.Fills.{Partly}
 use Rattle.instance_runs.proofs.runs.add_run.Given as goal
 
 abbrev pub invariant-loop-k : goal.invariant-loop-k

@@ -1,12 +1,8 @@
-use Prim.Native.Nat.{◌-◌, ◌≤◌}
-use mathlib.Core.Path.{refl}
-use native.Mathlib.Omega.{arith}
-use borrow.Author.Rules.{rules}
+use Prim.Native.Nat.{◌≤◌}
 use lib.ListN.{length}
-use Rattle.csdl.specs.Instance.{instance_of, node_count, node_slots_in}
-use Rattle.csdl.specs.Conforms.{node_of_slot}
+use Rattle.csdl.specs.Instance.{node_count, node_slots_in}
 use Rattle.instance_runs.specs.Tables.{Tabulates}
-use Rattle.instance_runs.proofs.Fills.{first_in, first-none, first_down, first-all, is_table}
+use Rattle.instance_runs.proofs.Fills.{first_in}
 use Rattle.instance_runs.proofs.runs.nodes_of_slots.Given as goal
 
 abbrev pub invariant-loop-v : goal.invariant-loop-v

@@ -1,9 +1,7 @@
-use Prim.Native.Nat.{◌+◌, ◌-◌, ◌≤◌, min}
-use mathlib.Core.Path.{◌≡◌, refl}
+use mathlib.Core.Path.{refl}
 use native.Mathlib.Omega.{arith}
 use borrow.Author.Rules.{rules}
-use lib.ListN.{length}
-use Rattle.instance_runs.proofs.Fills.{Partly, partly_start, partly_more, partly_all}
+use Rattle.instance_runs.proofs.Fills.{partly_start, partly_more, partly_all}
 use Rattle.instance_runs.proofs.runs.put_run.Goals as goal
 
 pub loop-k-init : goal.loop-k-init
@@ -11,11 +9,11 @@ loop-k-init c = (search rules, search rules, search rules, partly_start _ _ _)
 
 pub loop-k-preserved : goal.loop-k-preserved
 loop-k-preserved c = (
-      search rules,
-      search rules,
-      search rules,
-      partly_more (λ y. c.args.x) c.args.first c.loop-k.k c.args.x c.args.array.now c.loop-k.array c.loop-k.invariant.3 c.loop-k.invariant.0 (omega arith) refl,
-    )
+  search rules,
+  search rules,
+  search rules,
+  partly_more (λ y. c.args.x) c.args.first c.loop-k.k c.args.x c.args.array.now c.loop-k.array c.loop-k.invariant.3 c.loop-k.invariant.0 (omega arith) refl,
+)
 
 pub returns : goal.returns
 returns c = partly_all (λ y. c.args.x) c.args.first c.args.count c.loop-k.k c.args.array.now c.loop-k.array c.loop-k.invariant.3 c.loop-k.invariant.1 (omega arith)

@@ -1,9 +1,7 @@
 use Prim.Native.Nat.{◌+◌, ◌-◌, ◌≤◌, min}
-use mathlib.Core.Path.{◌≡◌, refl}
-use native.Mathlib.Omega.{arith}
-use borrow.Author.Rules.{rules}
+use mathlib.Core.Path.{◌≡◌}
 use lib.ListN.{length}
-use Rattle.instance_runs.proofs.Fills.{Partly, partly_start, partly_more, partly_all}
+use Rattle.instance_runs.proofs.Fills.{Partly}
 use Rattle.instance_runs.proofs.runs.put_run.Given as goal
 
 abbrev pub invariant-loop-k : goal.invariant-loop-k

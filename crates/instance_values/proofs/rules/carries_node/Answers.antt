@@ -2,7 +2,6 @@ use borrow.Author.Tests.{eq-eqb, ne_eqb, lt-ltb, le-ltb}
 use Rattle.csdl.specs.Model.{model_of}
 use Rattle.csdl.specs.Instance.{instance_of}
 use Rattle.csdl.specs.Conforms.{carries_node}
-use borrow.Author.Rules.{rules}
 use Rattle.instance_values.proofs.rules.carries_node.Goals as goal
 
 pub returns-then-handle-node_count : goal.returns-then-handle-node_count

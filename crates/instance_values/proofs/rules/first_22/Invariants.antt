@@ -4,8 +4,7 @@ use lib.ListN.{length}
 use Rattle.csdl.specs.Model.{model_of}
 use Rattle.csdl.specs.Instance.{instance_of}
 use Rattle.csdl.specs.Conforms.{node22}
-use Rattle.csdl.proofs.Loops.{First, first}
-use borrow.Author.Rules.{rules}
+use Rattle.csdl.proofs.Loops.{First}
 use Rattle.instance_values.proofs.rules.first_22.Given as goal
 
 abbrev pub invariant-loop-v : goal.invariant-loop-v

@@ -1,9 +1,4 @@
-use Prim.Native.Nat.{◌-◌, ◌≤◌}
-use mathlib.Core.List.{[]}
-use Rattle.csdl.specs.Model.{model_of}
-use Rattle.csdl.specs.Instance.{instance_of}
-use Rattle.csdl.specs.Conforms.{slot24}
-use Rattle.csdl.proofs.Loops.{First, first}
+use Rattle.csdl.proofs.Loops.{first}
 use borrow.Author.Rules.{rules}
 use Rattle.instance_values.proofs.rules.first_24.Goals as goal
 

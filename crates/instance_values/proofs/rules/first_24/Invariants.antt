@@ -3,8 +3,7 @@ use mathlib.Core.List.{[]}
 use Rattle.csdl.specs.Model.{model_of}
 use Rattle.csdl.specs.Instance.{instance_of}
 use Rattle.csdl.specs.Conforms.{slot24}
-use Rattle.csdl.proofs.Loops.{First, first}
-use borrow.Author.Rules.{rules}
+use Rattle.csdl.proofs.Loops.{First}
 use Rattle.instance_values.proofs.rules.first_24.Given as goal
 
 abbrev pub invariant-loop-s : goal.invariant-loop-s

@@ -1,14 +1,10 @@
-use borrow.Author.Rules.{rules}
-use Prim.Native.Nat.{ℕ, ◌-◌, ◌≤◌, zero-le}
-use mathlib.Core.Path.{sym, ap, ◌∙◌}
-use mathlib.Core.List.{List, []}
+use Prim.Native.Nat.{◌-◌, ◌≤◌}
+use mathlib.Core.List.{[]}
 use lib.ListN.{length}
 use Rattle.csdl.specs.Model.{model_of}
 use Rattle.csdl.specs.Instance.{instance_of}
 use Rattle.csdl.specs.Conforms.{item25}
-use Rattle.csdl.proofs.Loops.{First, first-start, first-hit, first_next, first_end}
-use Rattle.type_hierarchy.proofs.AncestorSets.{rows_size}
-use Rattle.instance_values.proofs.Frames.{item_25_is}
+use Rattle.csdl.proofs.Loops.{First}
 use Rattle.instance_values.proofs.rules.first_25.Given as goal
 
 abbrev pub invariant-loop-k : goal.invariant-loop-k

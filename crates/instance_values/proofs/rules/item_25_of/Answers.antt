@@ -7,7 +7,6 @@ use Rattle.csdl.specs.Conforms.{item25of}
 use Rattle.csdl.proofs.Climbing.{found_test}
 use Rattle.type_hierarchy.proofs.Frame.{structured_frame}
 use Rattle.instance_values.proofs.Frames.{null_frame, carries_frame}
-use borrow.Author.Rules.{rules}
 use Rattle.instance_values.proofs.rules.item_25_of.Goals as goal
 
 pub returns-then-property-eq0 : goal.returns-then-property-eq0

@@ -1,7 +1,6 @@
 use Rattle.csdl.specs.Model.{model_of}
 use Rattle.csdl.specs.Instance.{instance_of}
 use Rattle.csdl.specs.Conforms.{slot24}
-use borrow.Author.Rules.{rules}
 use Rattle.instance_values.proofs.rules.slot_24.Goals as goal
 
 pub returns : goal.returns

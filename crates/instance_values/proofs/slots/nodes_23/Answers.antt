@@ -1,17 +1,9 @@
-use Prim.Native.Nat.{◌-◌, ◌≤◌, zero-le}
+use Prim.Native.Nat.{zero-le}
 use mathlib.Core.Path.{◌≡◌, sym, ◌∙◌}
 use mathlib.Core.Bool.{true}
-use mathlib.Core.List.{[]}
 use native.Mathlib.Omega.{arith}
-use lib.ListN.{length, get_or}
-use borrow.Author.Tests.{not-false}
-use Rattle.csdl.specs.Tables.{property_count}
-use Rattle.csdl.specs.Model.{model_of}
-use Rattle.csdl.specs.Instance.{instance_of}
-use Rattle.csdl.specs.Conforms.{node23}
-use Rattle.csdl.proofs.Loops.{First, first-start, first-hit, first_next, first_end}
+use Rattle.csdl.proofs.Loops.{first-start, first-hit, first_next, first_end}
 use Rattle.type_hierarchy.specs.Sets.{member}
-use Rattle.name_classes.specs.Classes.{name_of, Ranked}
 use Rattle.instance_values.specs.Rows.{Rows}
 use Rattle.instance_values.proofs.Slotted.{rows_start, row_made, row_kept, row_past, row_23}
 use borrow.Author.Rules.{rules}
@@ -21,9 +13,10 @@ use Rattle.instance_values.proofs.slots.nodes_23.Goals.{Joined-not-in_set, then-
 -- The row of the node's type is there, kept or made.
 row-there : (c : Joined-not-in_set) → Rows c.args.types.now c.args.properties.now c.args.names.now c.if-not-in_set.rows c.if-not-in_set.done × (member c.if-not-in_set.done c.node_type-t.result ≡ true)
 row-there c =
-    elim c.if-not-in_set.branch
-    [ then-not-in_set w ↦ row_made _ _ _ _ _ _ _ _ _ c.loop-v.invariant.5 w.names_of-row.ensures.1 c.node_type-t.ensures.1 w.with_row-next.ensures w.with_one.ensures _ w.rows-is _ w.done-is
-    | else-not-in_set w ↦ row_kept _ _ _ _ _ _ c.loop-v.invariant.5 (sym c.in_set.ensures ∙ not-false _ w.if-not-in_set.false) _ w.rows-is _ w.done-is ]
+    elim c.if-not-in_set.branch [
+      | then-not-in_set w ↦ row_made _ _ _ _ _ _ _ _ _ c.loop-v.invariant.5 w.names_of-row.ensures.1 c.node_type-t.ensures.1 w.with_row-next.ensures w.with_one-done.ensures _ w.rows-is _ w.done-is
+      | else-not-in_set w ↦ row_kept _ _ _ _ _ _ c.loop-v.invariant.5 (sym c.in_set.ensures ∙ w.if-not-in_set.false) _ w.rows-is _ w.done-is
+    ]
 
 pub loop-v-init : goal.loop-v-init
 loop-v-init c = (first-start _ _, search rules, search rules, search rules, c.requires.3, rows_start _ _ _, c.property_count-all.ensures.0, c.property_count-all.ensures.1)

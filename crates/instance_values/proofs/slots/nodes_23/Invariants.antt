@@ -1,21 +1,14 @@
-use Prim.Native.Nat.{◌-◌, ◌≤◌, zero-le}
-use mathlib.Core.Path.{◌≡◌, sym, ◌∙◌}
-use mathlib.Core.Bool.{true}
+use Prim.Native.Nat.{◌-◌, ◌≤◌}
+use mathlib.Core.Path.{◌≡◌}
 use mathlib.Core.List.{[]}
-use mathlib.Core.Logic.{⊎_elim}
-use native.Mathlib.Omega.{arith}
 use lib.ListN.{length, get_or}
-use borrow.Author.Tests.{not-false}
 use Rattle.csdl.specs.Tables.{property_count}
 use Rattle.csdl.specs.Model.{model_of}
 use Rattle.csdl.specs.Instance.{instance_of}
 use Rattle.csdl.specs.Conforms.{node23}
-use Rattle.csdl.proofs.Loops.{First, first-start, first-hit, first_next, first_end}
-use Rattle.type_hierarchy.specs.Sets.{member}
+use Rattle.csdl.proofs.Loops.{First}
 use Rattle.name_classes.specs.Classes.{name_of, Ranked}
 use Rattle.instance_values.specs.Rows.{Rows}
-use Rattle.instance_values.proofs.Slotted.{rows_start, row_made, row_kept, row_past, row_23}
-use borrow.Author.Rules.{rules}
 use Rattle.instance_values.proofs.slots.nodes_23.Given as goal
 
 abbrev pub invariant-loop-v : goal.invariant-loop-v

@@ -1,11 +1,5 @@
-use Prim.Native.Nat.{ℕ, ◌+◌, ◌-◌, ◌≤◌, ◌<◌}
-use mathlib.Core.Path.{◌≡◌}
-use mathlib.Core.Bool.{false}
 use native.Mathlib.Omega.{arith}
-use lib.ListN.{length}
-use Rattle.type_names.specs.Wide.{wide}
-use Rattle.instance_values.proofs.Slotted.{Slotted, slotted_start, slotted_past, slotted_wrong, slotted_more, slotted_end}
-use borrow.Author.Rules.{rules}
+use Rattle.instance_values.proofs.Slotted.{slotted_start, slotted_past, slotted_wrong, slotted_more, slotted_end}
 use Rattle.instance_values.proofs.slots.unlike_run.Goals as goal
 use Rattle.instance_values.proofs.slots.unlike_run.Goals.{then-p-n+else-in_wide, else-p-n}
 
@@ -26,15 +20,16 @@ with_wide-next-requires c = (c.loop-done.invariant.2.size, c.slot_property-p.ens
 
 pub loop-done-preserved : goal.loop-done-preserved
 loop-done-preserved c = (
-      c.loop-done.invariant.0,
-      c.loop-done.invariant.1,
-      elim c.if-p-n.branch
-          [ then-p-n+else-in_wide w ↦ rw w.seen-is (slotted_more _ _ _ _ _ _ _ _ _ _ c.loop-done.invariant.2 c.loop-done-test.true _ c.slot_property-p.ensures.0 w.if-p-n.true _ _ w.in_wide.ensures w.in_wide-then-p-n.ensures w.if-in_wide.false _ w.with_wide-next.ensures.0 w.with_wide-next.ensures.1)
-          | else-p-n w ↦ rw w.seen-is (slotted_past _ _ _ _ _ _ _ _ _ _ c.loop-done.invariant.2 c.loop-done-test.true _ c.slot_property-p.ensures.0 w.if-p-n.false) ],
-      c.loop-done.invariant.3,
-      c.loop-done.invariant.4,
-      c.loop-done.invariant.5,
-    )
+  c.loop-done.invariant.0,
+  c.loop-done.invariant.1,
+  elim c.if-p-n.branch [
+    | then-p-n+else-in_wide w ↦ rw w.seen-is (slotted_more _ _ _ _ _ _ _ _ _ _ c.loop-done.invariant.2 c.loop-done-test.true _ c.slot_property-p.ensures.0 w.if-p-n.true _ _ w.in_wide.ensures w.in_wide-then-p-n.ensures w.if-in_wide.false _ w.with_wide-next.ensures.0 w.with_wide-next.ensures.1)
+    | else-p-n w ↦ rw w.seen-is (slotted_past _ _ _ _ _ _ _ _ _ _ c.loop-done.invariant.2 c.loop-done-test.true _ c.slot_property-p.ensures.0 w.if-p-n.false)
+  ],
+  c.loop-done.invariant.3,
+  c.loop-done.invariant.4,
+  c.loop-done.invariant.5,
+)
 
 pub unlike-requires : goal.unlike-requires
 unlike-requires c = (c.loop-done.invariant.2.size, c.loop-done.invariant.3)

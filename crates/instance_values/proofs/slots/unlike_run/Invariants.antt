@@ -1,12 +1,9 @@
 use Prim.Native.Nat.{ℕ, ◌+◌, ◌-◌, ◌≤◌, ◌<◌}
 use mathlib.Core.Path.{◌≡◌}
 use mathlib.Core.Bool.{false}
-use mathlib.Core.Logic.{⊎_elim}
-use native.Mathlib.Omega.{arith}
 use lib.ListN.{length}
 use Rattle.type_names.specs.Wide.{wide}
-use Rattle.instance_values.proofs.Slotted.{Slotted, slotted_start, slotted_past, slotted_wrong, slotted_more, slotted_end}
-use borrow.Author.Rules.{rules}
+use Rattle.instance_values.proofs.Slotted.{Slotted}
 use Rattle.instance_values.proofs.slots.unlike_run.Given as goal
 
 abbrev pub invariant-loop-done : goal.invariant-loop-done
