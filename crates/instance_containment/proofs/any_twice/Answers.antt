@@ -1,10 +1,6 @@
-use borrow.Author.Rules.{rules}
-use Prim.Native.Nat.{◌-◌}
 use mathlib.Core.Path.{refl}
-use lib.ListN.{get_or}
-use lib.Dec.{ltb}
 use borrow.Author.Tests.{lt-ltb, le-ltb}
-use Rattle.csdl.proofs.Loops.{Any, any-start, any-hit, any_next, any_end}
+use Rattle.csdl.proofs.Loops.{any-start, any-hit, any_next, any_end}
 use Rattle.instance_containment.proofs.any_twice.Goals as goal
 
 pub loop-w-init : goal.loop-w-init

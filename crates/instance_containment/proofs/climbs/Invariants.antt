@@ -1,9 +1,6 @@
-use borrow.Author.Rules.{rules}
-use mathlib.Core.Path.{◌≡◌, refl, sym, ◌∙◌}
+use mathlib.Core.Path.{◌≡◌}
 use lib.ListN.{get_or}
-use native.Mathlib.Omega.{arith}
 use Rattle.csdl.specs.Climb.{climb}
-use Rattle.type_hierarchy.proofs.Climb.{climb_out, climb-none, climb-hit, climb_up}
 use Rattle.instance_containment.proofs.climbs.Given as goal
 
 abbrev pub invariant-loop-rest : goal.invariant-loop-rest

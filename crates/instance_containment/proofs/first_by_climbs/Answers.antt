@@ -1,8 +1,5 @@
 use borrow.Author.Rules.{rules}
-use Prim.Native.Nat.{◌+◌, ◌-◌, ◌≤◌}
-use Rattle.csdl.specs.Climb.{climb}
-use Rattle.csdl.proofs.Loops.{First, first}
-use Rattle.instance_containment.specs.Graph.{entry}
+use Rattle.csdl.proofs.Loops.{first}
 use Rattle.instance_containment.proofs.first_by_climbs.Goals as goal
 
 pub loop-w-init : goal.loop-w-init

@@ -1,7 +1,6 @@
-use borrow.Author.Rules.{rules}
 use Prim.Native.Nat.{◌+◌, ◌-◌, ◌≤◌}
 use Rattle.csdl.specs.Climb.{climb}
-use Rattle.csdl.proofs.Loops.{First, first}
+use Rattle.csdl.proofs.Loops.{First}
 use Rattle.instance_containment.specs.Graph.{entry}
 use Rattle.instance_containment.proofs.first_by_climbs.Given as goal
 

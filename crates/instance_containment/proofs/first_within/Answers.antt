@@ -10,19 +10,17 @@ use Rattle.instance_containment.proofs.first_within.Goals as goal
 
 pub returns-then-any_twice : goal.returns-then-any_twice
 unfolding node26_in
-returns-then-any_twice c = let to = entry c.args.to.now in
-    (
-      c.first_by_rows.ensures.0
-          ∙ first-same _ _ 0 c.args.n
-          (λ w l h. ap₂ ◌||◌ (times_over to c.args.c c.held_times-times.result c.held_times-times.ensures w (omega (arith, h, c.requires.0))) refl),
-      search rules,
-    )
+returns-then-any_twice c = let to = entry c.args.to.now in (
+  c.first_by_rows.ensures.0
+      ∙ first-same _ _ 0 c.args.n
+      (λ w l h. ap₂ ◌||◌ (times_over to c.args.c c.held_times-times.result c.held_times-times.ensures w (omega (arith, h, c.requires.0))) refl),
+  search rules,
+)
 
 pub returns : goal.returns
 unfolding node26_in
 returns c = let from = node_in c.args.item_slots.now c.args.slot_nodes.now in
-    let to = entry c.args.to.now in
-    (
+    let to = entry c.args.to.now in (
       c.first_by_climbs.ensures.0
           ∙ first-same _ _ 0 c.args.n
           (λ w l m. once-node from to c.held_times-times.result c.holders_of-holders.result c.args.c c.args.n w (omega (arith, m)) c.requires.0 c.requires.1 c.held_times-times.ensures c.holders_of-holders.ensures

@@ -1,13 +1,10 @@
-use borrow.Author.Rules.{rules}
 use Prim.Native.Nat.{ℕ, ◌-◌, ◌≤◌, ◌<◌}
 use mathlib.Core.Path.{◌≡◌}
-use lib.ListN.{length, get_or, length-set}
+use lib.ListN.{length, get_or}
 use mathlib.Core.List.{[]}
-use native.Mathlib.Omega.{arith}
 use Rattle.csdl.specs.Model.{model_of}
 use Rattle.csdl.specs.Instance.{instance_of}
 use Rattle.instance_containment.specs.Graph.{held_by}
-use Rattle.instance_containment.proofs.Bridge.{fill_more, held_same_tables}
 use Rattle.instance_containment.proofs.held_nodes.Given as goal
 
 abbrev pub invariant-loop-k : goal.invariant-loop-k

@@ -1,14 +1,7 @@
-use borrow.Author.Rules.{rules}
-use Prim.Native.Nat.{ℕ, ◌-◌, ◌≤◌}
-use mathlib.Core.Path.{ap, ◌∙◌}
-use native.Mathlib.Omega.{arith}
-use mathlib.Core.Bool.{not}
-use lib.Dec.{eqb}
+use Prim.Native.Nat.{◌≤◌}
 use Rattle.instance_runs.specs.Tables.{Tabulates}
-use Rattle.csdl.specs.Search.{one_if}
 use Rattle.instance_containment.specs.Graph.{held_run, entry}
-use Rattle.instance_runs.proofs.Fills.{count_in, count_none, count_down, count-all}
-use Rattle.instance_containment.proofs.Bridge.{times_run}
+use Rattle.instance_runs.proofs.Fills.{count_in}
 use Rattle.instance_containment.proofs.held_times.Given as goal
 
 abbrev pub invariant-loop-k : goal.invariant-loop-k

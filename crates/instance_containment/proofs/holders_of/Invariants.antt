@@ -1,14 +1,7 @@
-use borrow.Author.Rules.{rules}
-use Prim.Native.Nat.{ℕ, ◌-◌, ◌≤◌}
-use mathlib.Core.Path.{ap, ◌∙◌}
-use native.Mathlib.Omega.{arith}
-use mathlib.Core.Bool.{not}
-use lib.Dec.{eqb}
+use Prim.Native.Nat.{◌≤◌}
 use Rattle.instance_runs.specs.Tables.{Tabulates}
-use Rattle.csdl.specs.Search.{one_if}
 use Rattle.instance_containment.specs.Graph.{held_run, node_in, entry}
-use Rattle.instance_runs.proofs.Fills.{latest_in, latest_none, latest_down, latest_all}
-use Rattle.instance_containment.proofs.Bridge.{holder_run}
+use Rattle.instance_runs.proofs.Fills.{latest_in}
 use Rattle.instance_containment.proofs.holders_of.Given as goal
 
 abbrev pub invariant-loop-k : goal.invariant-loop-k

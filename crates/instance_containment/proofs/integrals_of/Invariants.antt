@@ -1,17 +1,13 @@
-use Prim.Native.Nat.{ℕ, ◌+◌, ◌-◌, ◌≤◌}
-use mathlib.Core.Path.{◌≡◌, refl, sym, ◌∙◌}
-use mathlib.Core.Bool.{Bool, ◌&&◌}
+use Prim.Native.Nat.{◌-◌, ◌≤◌}
+use mathlib.Core.Path.{◌≡◌}
+use mathlib.Core.Bool.{◌&&◌}
 use mathlib.Core.List.{[]}
-use mathlib.Core.Logic.{⊎_elim}
-use native.Mathlib.Omega.{arith}
 use lib.Dec.{ltb}
 use lib.ListN.{length}
 use Rattle.csdl.specs.Tables.{property_count}
 use Rattle.csdl.specs.Model.{model_of}
 use Rattle.csdl.specs.Find.{integral}
 use Rattle.type_names.specs.Wide.{MembersWide}
-use Rattle.type_names.proofs.WideLaws.{wide-none, below_with, below_without, below_none}
-use borrow.Author.Rules.{rules}
 use Rattle.instance_containment.proofs.integrals_of.Given as goal
 
 abbrev pub invariant-loop-p : goal.invariant-loop-p

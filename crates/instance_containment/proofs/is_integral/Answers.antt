@@ -4,7 +4,6 @@ use native.Mathlib.Omega.{arith}
 use borrow.Author.Tests.{ne_eqb, lt-ltb}
 use Rattle.csdl.specs.Tables.{property_count}
 use Rattle.csdl.proofs.Climbing.{found_test}
-use borrow.Author.Rules.{rules}
 use Rattle.instance_containment.proofs.is_integral.Goals as goal
 
 pub returns-then-property-eq0 : goal.returns-then-property-eq0

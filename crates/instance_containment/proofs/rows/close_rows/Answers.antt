@@ -1,10 +1,8 @@
 use borrow.Author.Rules.{rules}
-use Prim.Native.Nat.{◌-◌, ◌≤◌}
 use mathlib.Core.Path.{◌≡◌, sym, ◌∙◌}
 use native.Mathlib.Omega.{arith}
-use lib.ListN.{length}
 use Rattle.instance_containment.specs.Rows.{in_row}
-use Rattle.type_hierarchy.proofs.Closing.{Reached, reached_start, reached_more, reached_all}
+use Rattle.type_hierarchy.proofs.Closing.{reached_start, reached_more, reached_all}
 use Rattle.instance_containment.proofs.rows.close_rows.Goals as goal
 
 pub loop-c-init : goal.loop-c-init

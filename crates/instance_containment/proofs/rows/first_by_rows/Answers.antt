@@ -25,13 +25,12 @@ first_in_rows-requires c = (c.close_rows.ensures.size, c.requires)
 
 pub returns : goal.returns
 unfolding within_in
-returns c = let step : ℕ → ℕ → Bool = step_in (node_in c.args.item_slots.now c.args.slot_nodes.now) (entry c.args.to.now) c.args.c in
-    (
-      c.first_in_rows.ensures.0
-          ∙ first-same _ _ 0 c.args.n
-          (λ w l h.
-          let m : w < c.args.n = omega (arith, h) in
-          ap (λ (x : Bool). ltb 1 (get_or c.args.times.now w 0) || x)
-          (c.close_rows.ensures.row w w m m ∙ reaches_same (in_row c.step_rows-rows.result) step c.args.n (λ v u i j. c.step_rows-rows.ensures.row v u (omega (arith, c.requires)) (omega (arith, c.requires))) w w m)),
-      search rules,
-    )
+returns c = let step : ℕ → ℕ → Bool = step_in (node_in c.args.item_slots.now c.args.slot_nodes.now) (entry c.args.to.now) c.args.c in (
+  c.first_in_rows.ensures.0
+      ∙ first-same _ _ 0 c.args.n
+      (λ w l h.
+      let m : w < c.args.n = omega (arith, h) in
+      ap (λ (x : Bool). ltb 1 (get_or c.args.times.now w 0) || x)
+      (c.close_rows.ensures.row w w m m ∙ reaches_same (in_row c.step_rows-rows.result) step c.args.n (λ v u i j. c.step_rows-rows.ensures.row v u (omega (arith, c.requires)) (omega (arith, c.requires))) w w m)),
+  search rules,
+)

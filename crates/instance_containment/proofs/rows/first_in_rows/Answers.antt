@@ -1,11 +1,5 @@
 use borrow.Author.Rules.{rules}
-use Prim.Native.Nat.{◌-◌, ◌≤◌}
-use mathlib.Core.Path.{◌≡◌}
-use mathlib.Core.Bool.{◌||◌}
-use lib.Dec.{ltb}
-use lib.ListN.{length, get_or}
-use Rattle.csdl.proofs.Loops.{First, first, first-hit, first_next}
-use Rattle.instance_containment.specs.Rows.{in_row}
+use Rattle.csdl.proofs.Loops.{first, first-hit, first_next}
 use Rattle.instance_containment.proofs.rows.first_in_rows.Goals as goal
 
 pub loop-w-init : goal.loop-w-init

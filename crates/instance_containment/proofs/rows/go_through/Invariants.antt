@@ -1,10 +1,8 @@
-use borrow.Author.Rules.{rules}
 use Prim.Native.Nat.{◌-◌, ◌≤◌, ◌<◌}
-use mathlib.Core.Path.{◌≡◌, sym, ◌∙◌}
-use native.Mathlib.Omega.{arith}
+use mathlib.Core.Path.{◌≡◌}
 use lib.ListN.{length}
 use Rattle.instance_containment.specs.Rows.{in_row}
-use Rattle.type_hierarchy.proofs.Closing.{Going, going_start, going_more, going_through}
+use Rattle.type_hierarchy.proofs.Closing.{Going}
 use Rattle.instance_containment.proofs.rows.go_through.Given as goal
 
 abbrev pub invariant-loop-v : goal.invariant-loop-v

@@ -1,4 +1,3 @@
-use borrow.Author.Rules.{rules}
 use Rattle.instance_containment.specs.Rows.{in_row}
 use Rattle.instance_containment.proofs.rows.in_row.Goals as goal
 

@@ -1,11 +1,7 @@
 use borrow.Author.Rules.{rules}
-use Prim.Native.Nat.{◌*◌, ◌-◌, ◌≤◌, ◌<◌}
-use mathlib.Core.Path.{◌≡◌, sym, ◌∙◌}
-use mathlib.Core.Bool.{true}
-use borrow.Author.Tests.{not-true, not-false}
-use lib.ListN.{length, length-set}
-use Rattle.instance_containment.specs.Rows.{in_row}
-use Rattle.instance_containment.proofs.RowLaws.{Joining, joining_start, joining_more, joined, not_joined}
+use mathlib.Core.Path.{sym, ◌∙◌}
+use lib.ListN.{length-set}
+use Rattle.instance_containment.proofs.RowLaws.{joining_start, joining_more, joined, not_joined}
 use Rattle.instance_containment.proofs.rows.pass.Goals as goal
 
 pub returns-then-not-in_row : goal.returns-then-not-in_row

@@ -1,11 +1,9 @@
-use borrow.Author.Rules.{rules}
 use Prim.Native.Nat.{◌*◌, ◌-◌, ◌≤◌, ◌<◌}
-use mathlib.Core.Path.{◌≡◌, sym, ◌∙◌}
+use mathlib.Core.Path.{◌≡◌}
 use mathlib.Core.Bool.{true}
-use borrow.Author.Tests.{not-true, not-false}
-use lib.ListN.{length, length-set}
+use lib.ListN.{length}
 use Rattle.instance_containment.specs.Rows.{in_row}
-use Rattle.instance_containment.proofs.RowLaws.{Joining, joining_start, joining_more, joined, not_joined}
+use Rattle.instance_containment.proofs.RowLaws.{Joining}
 use Rattle.instance_containment.proofs.rows.pass.Given as goal
 
 abbrev pub invariant-loop-j : goal.invariant-loop-j

@@ -1,4 +1,3 @@
-use borrow.Author.Rules.{rules}
 use native.Mathlib.Omega.{arith}
 use Rattle.instance_containment.proofs.RowLaws.{no_number, a_number, no_step, with_step_lem}
 use Rattle.instance_containment.proofs.rows.put_step.Goals as goal

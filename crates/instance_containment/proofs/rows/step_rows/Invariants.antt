@@ -1,10 +1,7 @@
-use borrow.Author.Rules.{rules}
-use Prim.Native.Nat.{◌-◌, ◌≤◌}
-use mathlib.Core.Path.{sym}
-use native.Mathlib.Omega.{arith}
+use Prim.Native.Nat.{◌≤◌}
 use Rattle.instance_containment.specs.Graph.{node_in, entry}
 use Rattle.instance_containment.specs.Rows.{Steps}
-use Rattle.instance_containment.proofs.RowLaws.{steps_from, from_start, from_more, from_end_lem}
+use Rattle.instance_containment.proofs.RowLaws.{steps_from}
 use Rattle.instance_containment.proofs.rows.step_rows.Given as goal
 
 abbrev pub invariant-loop-k : goal.invariant-loop-k
