@@ -1,11 +1,5 @@
-use Prim.Native.Nat.{◌-◌, ◌<◌}
-use mathlib.Core.List.{[]}
 use native.Mathlib.Omega.{arith}
-use lib.ListN.{get_or}
-use Rattle.csdl.specs.Model.{model_of}
-use Rattle.path_resolution.specs.Resolution.{is_code}
-use Rattle.csdl.proofs.Loops.{Any, any-start, any-hit, any_next, any_end}
-use Rattle.path_steps.specs.Steps.{step_test}
+use Rattle.csdl.proofs.Loops.{any-start, any-hit, any_next, any_end}
 use borrow.Author.Rules.{rules}
 use Rattle.path_steps.proofs.any_code.Goals as goal
 

@@ -1,12 +1,10 @@
 use Prim.Native.Nat.{◌-◌, ◌<◌}
 use mathlib.Core.List.{[]}
-use native.Mathlib.Omega.{arith}
 use lib.ListN.{get_or}
 use Rattle.csdl.specs.Model.{model_of}
 use Rattle.path_resolution.specs.Resolution.{is_code}
-use Rattle.csdl.proofs.Loops.{Any, any-start, any-hit, any_next, any_end}
+use Rattle.csdl.proofs.Loops.{Any}
 use Rattle.path_steps.specs.Steps.{step_test}
-use borrow.Author.Rules.{rules}
 use Rattle.path_steps.proofs.any_code.Given as goal
 
 abbrev pub invariant-loop-k : goal.invariant-loop-k

@@ -1,5 +1,4 @@
 use borrow.Author.Tests.{lt-ltb, le-ltb}
-use borrow.Author.Rules.{rules}
 use Rattle.path_steps.proofs.code_test.Goals as goal
 
 pub returns-then-code-ge32768 : goal.returns-then-code-ge32768

@@ -1,6 +1,5 @@
 use Rattle.csdl.specs.Model.{model_of}
 use Rattle.csdl.specs.Paths.{constraint_step}
-use borrow.Author.Rules.{rules}
 use Rattle.path_steps.proofs.constraint_step.Goals as goal
 
 pub returns : goal.returns

@@ -1,7 +1,6 @@
 use Rattle.csdl.specs.Model.{model_of}
 use Rattle.csdl.specs.Find.{of_kind}
 use Rattle.csdl.specs.Paths.{key_end, key_type}
-use borrow.Author.Rules.{rules}
 use Rattle.path_steps.proofs.key_end.Goals as goal
 
 pub returns : goal.returns

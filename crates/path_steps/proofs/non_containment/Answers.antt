@@ -1,6 +1,5 @@
 use Rattle.csdl.specs.Model.{model_of}
 use Rattle.csdl.specs.Paths.{non_containment}
-use borrow.Author.Rules.{rules}
 use Rattle.path_steps.proofs.non_containment.Goals as goal
 
 pub returns : goal.returns

@@ -1,4 +1,3 @@
-use borrow.Author.Rules.{rules}
 use Rattle.path_steps.proofs.step_or_end.Goals as goal
 
 pub returns : goal.returns

@@ -4,7 +4,6 @@ use Rattle.csdl.specs.Model.{model_of}
 use Rattle.csdl.specs.Find.{contain_step}
 use Rattle.csdl.specs.Paths.{non_containment}
 use Rattle.path_steps.specs.Steps.{step_test}
-use borrow.Author.Rules.{rules}
 use Rattle.path_steps.proofs.step_test.Goals as goal
 
 pub returns-in-NoKeyStep : goal.returns-in-NoKeyStep

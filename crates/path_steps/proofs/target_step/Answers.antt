@@ -1,7 +1,6 @@
 use Rattle.csdl.specs.Model.{model_of}
 use Rattle.csdl.specs.Find.{contain_step}
 use Rattle.csdl.specs.Paths.{target_step}
-use borrow.Author.Rules.{rules}
 use Rattle.path_steps.proofs.target_step.Goals as goal
 
 pub returns : goal.returns

@@ -1,11 +1,7 @@
-use Prim.Native.Nat.{◌+◌, ◌≤◌}
 use mathlib.Core.Path.{◌≡◌, refl, ◌∙◌}
 use native.Mathlib.Numerals.{add-one}
 use native.Mathlib.Omega.{arith}
-use lib.ListN.{get_or}
-use Rattle.csdl.specs.Tables.{property_count}
-use Rattle.name_classes.specs.Classes.{name_of, Ranked}
-use Rattle.lookup.proofs.Chain.{Filled, filled_start, filled_step, filled_past, entry_read, indexed, alike-start}
+use Rattle.lookup.proofs.Chain.{filled_start, filled_step, filled_past, entry_read, indexed, alike-start}
 use Rattle.name_classes.proofs.Ranks.{firsts_count, place-first}
 use borrow.Author.Rules.{rules}
 use Rattle.lookup.proofs.index.index_of.Goals as goal
@@ -42,8 +38,8 @@ loop-p-preserved c = let r = entry_read c.args.properties.now c.args.names.now c
 
 pub returns : goal.returns
 returns c = let e : c.loop-p.p ≡ 0 = omega arith in let x = indexed _ _ _ _ _ c.loop-p.invariant.1 c.loop-p.invariant.2 (rw e at c.loop-p.invariant.3) in let r = x.ranked in record {
-      indexed = x;
-      result_value = firsts_count _ _ _ _ r;
-      by_index = λ i h. add-one _ ∙ place-first _ _ _ _ r i h;
-      by_index_2 = λ p h. (alike-start _ _ _ x p h _ refl, x.next p h);
-    }
+  indexed = x;
+  result_value = firsts_count _ _ _ _ r;
+  by_index = λ i h. add-one _ ∙ place-first _ _ _ _ r i h;
+  by_index_2 = λ p h. (alike-start _ _ _ x p h _ refl, x.next p h);
+}

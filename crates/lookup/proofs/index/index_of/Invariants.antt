@@ -1,13 +1,8 @@
 use Prim.Native.Nat.{◌+◌, ◌≤◌}
-use mathlib.Core.Path.{◌≡◌, refl, ◌∙◌}
-use native.Mathlib.Numerals.{add-one}
-use native.Mathlib.Omega.{arith}
 use lib.ListN.{get_or}
 use Rattle.csdl.specs.Tables.{property_count}
 use Rattle.name_classes.specs.Classes.{name_of, Ranked}
-use Rattle.lookup.proofs.Chain.{Filled, filled_start, filled_step, filled_past, entry_read, indexed, alike-start}
-use Rattle.name_classes.proofs.Ranks.{firsts_count, place-first}
-use borrow.Author.Rules.{rules}
+use Rattle.lookup.proofs.Chain.{Filled}
 use Rattle.lookup.proofs.index.index_of.Given as goal
 
 abbrev pub invariant-loop-p : goal.invariant-loop-p

@@ -1,4 +1,3 @@
-use borrow.Author.Rules.{rules}
 use Rattle.lookup.proofs.names.both_types.Goals as goal
 
 pub returns : goal.returns

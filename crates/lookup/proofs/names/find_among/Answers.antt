@@ -1,18 +1,15 @@
-use Prim.Native.Nat.{ℕ, ◌≤◌}
-use mathlib.Core.Path.{◌≡◌, ap, ◌∙◌}
+use Prim.Native.Nat.{ℕ}
+use mathlib.Core.Path.{ap, ◌∙◌}
 use mathlib.Core.List.{List}
 use lib.ListN.{length, get_or}
 use native.Mathlib.Omega.{arith}
-use Rattle.csdl.specs.Tables.{type_base, type_count, property_count}
+use Rattle.csdl.specs.Tables.{type_base, type_count}
 use Rattle.csdl.specs.Model.{model_of}
 use Rattle.csdl.specs.Find.{find, own, declares}
 use Rattle.type_hierarchy.specs.Near.{left_at, only}
-use Rattle.type_hierarchy.specs.Nearness.{nearness_of}
 use Rattle.type_hierarchy.proofs.Climbing.{nearness_size, nearness_at}
-use Rattle.lookup.specs.Index.{Indexed}
 use Rattle.lookup.proofs.Found.{found_none}
-use Rattle.lookup.proofs.Looking.{Looking, remaining, on-start, on_below, on_less, looking_start, looking_end, looking_nearer, looking_farther}
-use borrow.Author.Rules.{rules}
+use Rattle.lookup.proofs.Looking.{on-start, on_below, on_less, looking_start, looking_end, looking_nearer, looking_farther}
 use Rattle.lookup.proofs.names.find_among.Goals as goal
 use Rattle.lookup.proofs.names.find_among.Goals.{then-near-left, else-near-left}
 
@@ -33,13 +30,14 @@ loop-at-smaller c = on_less _ _ _ _ _ _ _ c.loop-at.invariant.1.on c.loop-at-tes
 
 pub loop-at-preserved : goal.loop-at-preserved
 loop-at-preserved c = let left = ap (λ (l : List ℕ). get_or l c.property_owner.result 0) c.loop-at.invariant.3 ∙ nearness_at _ _ _ c.property_owner.result (omega (arith, c.property_owner.ensures.1)) ∙ ap (λ (k : ℕ). left_at (only k) (λ u. type_base c.args.types.now u) (type_count c.args.types.now) c.args.t) c.property_owner.ensures.0 in (
-      c.loop-at.invariant.0,
-      elim c.if-near-left.branch [
-        then-near-left w ↦ rw (w.found-is, w.near-is) (looking_nearer _ _ _ _ _ _ _ _ _ _ _ c.loop-at.invariant.1 c.loop-at-test.true _ c.next_alike-at.ensures _ left w.if-near-left.true)
-      | else-near-left w ↦ rw (w.found-is, w.near-is) (looking_farther _ _ _ _ _ _ _ _ _ _ _ c.loop-at.invariant.1 c.loop-at-test.true _ c.next_alike-at.ensures _ left w.if-near-left.false) ],
-      c.loop-at.invariant.2,
-      c.loop-at.invariant.3,
-    )
+  c.loop-at.invariant.0,
+  elim c.if-near-left.branch [
+    | then-near-left w ↦ rw (w.found-is, w.near-is) (looking_nearer _ _ _ _ _ _ _ _ _ _ _ c.loop-at.invariant.1 c.loop-at-test.true _ c.next_alike-at.ensures _ left w.if-near-left.true)
+    | else-near-left w ↦ rw (w.found-is, w.near-is) (looking_farther _ _ _ _ _ _ _ _ _ _ _ c.loop-at.invariant.1 c.loop-at-test.true _ c.next_alike-at.ensures _ left w.if-near-left.false)
+  ],
+  c.loop-at.invariant.2,
+  c.loop-at.invariant.3,
+)
 
 pub returns : goal.returns
 unfolding model_of find own declares

@@ -2,7 +2,6 @@ use native.Mathlib.Omega.{arith}
 use native.Mathlib.Nat.{sub-zero}
 use Rattle.csdl.specs.Tables.{property_count}
 use Rattle.lookup.proofs.Chain.{guess_start, guess_most}
-use borrow.Author.Rules.{rules}
 use Rattle.lookup.proofs.names.first_named.Goals as goal
 
 pub returns-then-has_name : goal.returns-then-has_name

@@ -1,5 +1,4 @@
 use Rattle.csdl.specs.Image.{image1}
-use borrow.Author.Rules.{rules}
 use Rattle.model_image.proofs.image.bad_image.Goals as goal
 
 pub returns : goal.returns

@@ -1,4 +1,3 @@
-use borrow.Author.Rules.{rules}
 use Rattle.model_image.proofs.image.counts_of.Goals as goal
 
 pub returns : goal.returns

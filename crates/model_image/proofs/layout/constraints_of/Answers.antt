@@ -1,6 +1,5 @@
 use native.Mathlib.Omega.{arith}
 use Rattle.model_image.proofs.Laid.{opened, cut}
-use borrow.Author.Rules.{rules}
 use Rattle.model_image.proofs.layout.constraints_of.Goals as goal
 
 pub overflow_sub-at : goal.overflow_sub-at

@@ -1,7 +1,6 @@
 use Rattle.model_image.proofs.Laid.{few, layout_is}
 use mathlib.Core.Path.{refl}
 use native.Mathlib.Omega.{arith}
-use borrow.Author.Rules.{rules}
 use Rattle.model_image.proofs.layout.layout_of.Goals as goal
 
 pub overflow_add-properties_place : goal.overflow_add-properties_place

@@ -1,7 +1,6 @@
 use mathlib.Core.Path.{refl}
 use native.Mathlib.Omega.{arith}
 use Rattle.model_image.proofs.Laid.{opened, cut}
-use borrow.Author.Rules.{rules}
 use Rattle.model_image.proofs.layout.schemas_of.Goals as goal
 
 pub overflow_sub-at : goal.overflow_sub-at

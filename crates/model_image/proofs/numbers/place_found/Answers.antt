@@ -1,4 +1,3 @@
-use borrow.Author.Rules.{rules}
 use Rattle.csdl.proofs.Windows.{place_of_some}
 use Rattle.model_image.proofs.numbers.place_found.Goals as goal
 

@@ -1,4 +1,3 @@
-use borrow.Author.Rules.{rules}
 use Rattle.model_image.proofs.texts.segment_text.Goals as goal
 
 pub returns : goal.returns

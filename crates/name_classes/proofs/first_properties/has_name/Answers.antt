@@ -1,4 +1,3 @@
-use borrow.Author.Rules.{rules}
 use Rattle.name_classes.proofs.first_properties.has_name.Goals as goal
 
 pub returns : goal.returns

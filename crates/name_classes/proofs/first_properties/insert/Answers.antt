@@ -1,7 +1,6 @@
 use native.Mathlib.Omega.{arith}
 use lib.ListN.{length-set}
-use Rattle.name_classes.proofs.Sorting.{Shifted, shifted_start, shifted_next, shifted_end, entry-is}
-use borrow.Author.Rules.{rules}
+use Rattle.name_classes.proofs.Sorting.{shifted_start, shifted_next, shifted_end, entry-is}
 use Rattle.name_classes.proofs.first_properties.insert.Goals as goal
 
 pub loop-k-init : goal.loop-k-init
@@ -15,6 +14,6 @@ shape_of-order c = simp length-set c.loop-k.invariant.size
 
 pub returns : goal.returns
 returns c = let n = shifted_end _ _ _ _ _ c.loop-k.invariant _ (omega arith) in record {
-      inserted = n;
-      by_index = entry-is _ _ _ _ _ n;
-    }
+  inserted = n;
+  by_index = entry-is _ _ _ _ _ n;
+}

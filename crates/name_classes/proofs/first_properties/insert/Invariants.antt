@@ -1,7 +1,4 @@
-use native.Mathlib.Omega.{arith}
-use lib.ListN.{length-set}
-use Rattle.name_classes.proofs.Sorting.{Shifted, shifted_start, shifted_next, shifted_end, entry-is}
-use borrow.Author.Rules.{rules}
+use Rattle.name_classes.proofs.Sorting.{Shifted}
 use Rattle.name_classes.proofs.first_properties.insert.Given as goal
 
 abbrev pub invariant-loop-k : goal.invariant-loop-k

@@ -1,9 +1,5 @@
-use Prim.Native.Nat.{◌-◌, ◌≤◌}
 use native.Mathlib.Omega.{arith}
-use lib.ListN.{length}
-use Rattle.name_classes.specs.Classes.{name_of, Sorted}
-use Rattle.name_classes.proofs.Sorting.{Between, between_start, between_up, between_down, between_end}
-use borrow.Author.Rules.{rules}
+use Rattle.name_classes.proofs.Sorting.{between_start, between_up, between_down, between_end}
 use Rattle.name_classes.proofs.first_properties.position.Goals as goal
 
 pub loop-low-init : goal.loop-low-init

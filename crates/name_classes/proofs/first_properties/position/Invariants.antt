@@ -1,9 +1,7 @@
 use Prim.Native.Nat.{◌-◌, ◌≤◌}
-use native.Mathlib.Omega.{arith}
 use lib.ListN.{length}
 use Rattle.name_classes.specs.Classes.{name_of, Sorted}
-use Rattle.name_classes.proofs.Sorting.{Between, between_start, between_up, between_down, between_end}
-use borrow.Author.Rules.{rules}
+use Rattle.name_classes.proofs.Sorting.{Between}
 use Rattle.name_classes.proofs.first_properties.position.Given as goal
 
 abbrev pub invariant-loop-low : goal.invariant-loop-low

@@ -1,9 +1,7 @@
-use Prim.Native.Nat.{◌-◌, ◌≤◌}
 use mathlib.Core.Path.{◌≡◌, sym, ◌∙◌}
 use native.Mathlib.Numerals.{add-one}
 use native.Mathlib.Omega.{arith}
 use Rattle.csdl.specs.Tables.{property_count}
-use Rattle.name_classes.specs.Classes.{name_of, Ranked}
 use Rattle.name_classes.proofs.Filling.{ranked-start, ranked_old, ranked_new, ranked_end}
 use Rattle.name_classes.proofs.Ranks.{firsts_count, place-first, entry_first}
 use borrow.Author.Rules.{rules}
@@ -42,20 +40,21 @@ bounds-index-p-else-first-eq0 c = omega (arith, c.loop-p.invariant.2.size)
 
 pub loop-p-preserved : goal.loop-p-preserved
 loop-p-preserved c = let e = rw c.property_text-name.ensures at c.first_at-first.ensures.0 in (
-      search rules,
-      search rules,
-      elim c.if-first-eq0.branch [
-        then-first-eq0 w ↦ rw (w.index-is, w.firsts-is) (ranked_new _ _ _ _ c.loop-p.invariant.2 (omega arith) _ _ e w.if-first-eq0.true (rw c.property_text-name.ensures at c.position-at.ensures) _ w.insert.ensures.inserted)
-      | else-first-eq0 w ↦ rw (w.index-is, w.firsts-is) (ranked_old _ _ _ _ c.loop-p.invariant.2 (omega arith) _ _ e w.if-first-eq0.false) ],
-    )
+  search rules,
+  search rules,
+  elim c.if-first-eq0.branch [
+    | then-first-eq0 w ↦ rw (w.index-is, w.firsts-is) (ranked_new _ _ _ _ c.loop-p.invariant.2 (omega arith) _ _ e w.if-first-eq0.true (rw c.property_text-name.ensures at c.position-at.ensures) _ w.insert.ensures.inserted)
+    | else-first-eq0 w ↦ rw (w.index-is, w.firsts-is) (ranked_old _ _ _ _ c.loop-p.invariant.2 (omega arith) _ _ e w.if-first-eq0.false)
+  ],
+)
 
 pub bounds-index-1536 : goal.bounds-index-1536
 bounds-index-1536 c = omega (arith, c.loop-p.invariant.2.size)
 
 pub returns : goal.returns
 returns c = let e : c.loop-p.p ≡ property_count c.args.properties.now = omega arith in let k = ranked_end _ _ _ _ (omega arith) (rw e at c.loop-p.invariant.2) in record {
-      ranked = k;
-      result_value = firsts_count _ _ _ _ k;
-      by_index = λ i l. add-one _ ∙ place-first _ _ _ _ k i l;
-      by_index_2 = entry_first _ _ _ _ k;
-    }
+  ranked = k;
+  result_value = firsts_count _ _ _ _ k;
+  by_index = λ i l. add-one _ ∙ place-first _ _ _ _ k i l;
+  by_index_2 = entry_first _ _ _ _ k;
+}

@@ -1,13 +1,5 @@
 use Prim.Native.Nat.{◌-◌, ◌≤◌}
-use mathlib.Core.Path.{◌≡◌, sym, ◌∙◌}
-use mathlib.Core.Logic.{⊎_elim}
-use native.Mathlib.Numerals.{add-one}
-use native.Mathlib.Omega.{arith}
-use Rattle.csdl.specs.Tables.{property_count}
 use Rattle.name_classes.specs.Classes.{name_of, Ranked}
-use Rattle.name_classes.proofs.Filling.{ranked-start, ranked_old, ranked_new, ranked_end}
-use Rattle.name_classes.proofs.Ranks.{firsts_count, place-first, entry_first}
-use borrow.Author.Rules.{rules}
 use Rattle.name_classes.proofs.first_properties.ranked.Given as goal
 
 abbrev pub invariant-loop-p : goal.invariant-loop-p

@@ -1,5 +1,4 @@
 use Rattle.name_classes.proofs.Before.{before_out, before_end, before_at}
-use borrow.Author.Rules.{rules}
 use Rattle.name_classes.proofs.order.comes_before.Goals as goal
 
 pub returns-then-b-i : goal.returns-then-b-i

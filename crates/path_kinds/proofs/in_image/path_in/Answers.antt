@@ -1,5 +1,4 @@
 use Rattle.path_kinds.proofs.Frame.{path-is}
-use borrow.Author.Rules.{rules}
 use Rattle.path_kinds.proofs.in_image.path_in.Goals as goal
 
 pub returns : goal.returns

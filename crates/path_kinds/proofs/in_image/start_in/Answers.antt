@@ -1,6 +1,5 @@
 use mathlib.Core.Path.{◌∙◌}
 use Rattle.path_kinds.proofs.Frame.{start_is}
-use borrow.Author.Rules.{rules}
 use Rattle.path_kinds.proofs.in_image.start_in.Goals as goal
 
 pub returns : goal.returns

@@ -1,10 +1,7 @@
 use Prim.Native.Nat.{◌-◌, ◌*◌, ◌≤◌}
 use mathlib.Core.Path.{◌≡◌}
-use native.Mathlib.Omega.{arith}
-use lib.ListN.{length, length-set}
+use lib.ListN.{length}
 use Rattle.path_resolution.specs.Written.{Written}
-use Rattle.path_resolution.proofs.Writing.{high_of, low_of, written_start, written-more, all-written}
-use borrow.Author.Rules.{rules}
 use Rattle.path_resolution.proofs.bytes.write_resolution.Given as goal
 
 abbrev pub invariant-loop-g : goal.invariant-loop-g

@@ -1,6 +1,5 @@
 use mathlib.Core.Path.{sym}
 use lib.ListN.{get_or-eq_default}
-use borrow.Author.Rules.{rules}
 use Rattle.path_resolution.proofs.codes.code_at.Goals as goal
 
 pub returns-else-at-codes : goal.returns-else-at-codes

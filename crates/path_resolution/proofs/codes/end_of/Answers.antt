@@ -1,7 +1,6 @@
 use borrow.Author.Tests.{eq-eqb, ne_eqb, lt-ltb, le-ltb}
 use Rattle.csdl.specs.Model.{model_of}
 use Rattle.path_resolution.specs.Resolution.{code_to, code_end}
-use borrow.Author.Rules.{rules}
 use Rattle.path_resolution.proofs.codes.end_of.Goals as goal
 
 pub returns-then-n-eq0 : goal.returns-then-n-eq0

@@ -1,11 +1,7 @@
 use Prim.Native.Nat.{◌-◌, ◌<◌}
-use mathlib.Core.Path.{refl}
 use lib.ListN.{get_or}
-use native.Mathlib.Omega.{arith}
-use borrow.Author.Tests.{le-leb, lt-leb}
 use Rattle.path_resolution.specs.Resolution.{cast_code}
-use Rattle.csdl.proofs.Loops.{Any, any-start, any-hit, any_next, any_end}
-use borrow.Author.Rules.{rules}
+use Rattle.csdl.proofs.Loops.{Any}
 use Rattle.path_resolution.proofs.codes.has_cast.Given as goal
 
 abbrev pub invariant-loop-k : goal.invariant-loop-k

@@ -1,6 +1,5 @@
 use borrow.Author.Tests.{eq-eqb, ne_eqb}
 use Rattle.path_resolution.specs.Resolution.{last_code}
-use borrow.Author.Rules.{rules}
 use Rattle.path_resolution.proofs.codes.last_code.Goals as goal
 
 pub returns-then-count-eq0 : goal.returns-then-count-eq0

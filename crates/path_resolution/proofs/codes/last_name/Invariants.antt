@@ -1,9 +1,6 @@
-use Prim.Native.Nat.{◌-◌, ◌<◌, ◌≤◌}
-use mathlib.Core.Path.{◌≡◌, refl, sym, ◌∙◌}
-use native.Mathlib.Omega.{arith}
+use Prim.Native.Nat.{◌<◌, ◌≤◌}
+use mathlib.Core.Path.{◌≡◌}
 use Rattle.path_resolution.specs.Resolution.{last_name}
-use Rattle.path_resolution.proofs.Last.{name-none, name-hit, name_miss}
-use borrow.Author.Rules.{rules}
 use Rattle.path_resolution.proofs.codes.last_name.Given as goal
 
 abbrev pub invariant-loop-n : goal.invariant-loop-n

@@ -1,10 +1,6 @@
 use Prim.Native.Nat.{◌-◌, ◌≤◌, ◌<◌}
-use mathlib.Core.Path.{◌≡◌, refl}
-use native.Mathlib.Omega.{arith}
-use Rattle.csdl.specs.Search.{tab}
+use mathlib.Core.Path.{◌≡◌}
 use Rattle.path_resolution.specs.Coded.{run_of}
-use Rattle.path_resolution.proofs.Runs.{run_more}
-use borrow.Author.Rules.{rules}
 use Rattle.path_resolution.proofs.codes.run_of.Given as goal
 
 abbrev pub invariant-loop-k : goal.invariant-loop-k

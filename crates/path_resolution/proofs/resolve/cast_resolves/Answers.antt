@@ -1,4 +1,3 @@
-use borrow.Author.Rules.{rules}
 use Rattle.path_resolution.proofs.resolve.cast_resolves.Goals as goal
 
 pub returns-then-structured : goal.returns-then-structured

@@ -1,8 +1,6 @@
-use mathlib.Core.Path.{refl}
 use Rattle.csdl.specs.Model.{model_of}
 use Rattle.csdl.specs.Find.{structured, ancestor_or_self, ancestor, find, own, declares}
 use Rattle.csdl.specs.Path.{segment_at, resolves_at, step_at, moves_to}
-use borrow.Author.Rules.{rules}
 use Rattle.path_resolution.proofs.resolve.move_at.Goals as goal
 
 pub cast_resolves-ok-requires : goal.cast_resolves-ok-requires

@@ -7,7 +7,6 @@ use Rattle.csdl.specs.Search.{if_found}
 use Rattle.csdl.specs.Path.{no_reference}
 use Rattle.csdl.specs.Path.Step.{property, nothing}
 use Rattle.csdl.specs.Verdict.{step_code}
-use borrow.Author.Rules.{rules}
 use Rattle.path_resolution.proofs.resolve.named_move.Goals as goal
 
 -- A name that means a property, by what was found: its number plus 1. typed gives the type reference of a property.

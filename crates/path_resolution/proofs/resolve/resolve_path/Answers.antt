@@ -1,8 +1,4 @@
-use Prim.Native.Nat.{◌-◌}
-use mathlib.Core.List.{[]}
-use Rattle.csdl.specs.Model.{model_of}
-use Rattle.path_resolution.proofs.Turn.{Along, along-start, along-number, along-few, along_less, along-next, along_end_lem}
-use borrow.Author.Rules.{rules}
+use Rattle.path_resolution.proofs.Turn.{along-start, along-number, along-few, along_less, along-next, along_end_lem}
 use Rattle.path_resolution.proofs.resolve.resolve_path.Goals as goal
 
 pub loop-k-init : goal.loop-k-init

@@ -1,8 +1,7 @@
 use Prim.Native.Nat.{◌-◌}
 use mathlib.Core.List.{[]}
 use Rattle.csdl.specs.Model.{model_of}
-use Rattle.path_resolution.proofs.Turn.{Along, along-start, along-number, along-few, along_less, along-next, along_end_lem}
-use borrow.Author.Rules.{rules}
+use Rattle.path_resolution.proofs.Turn.{Along}
 use Rattle.path_resolution.proofs.resolve.resolve_path.Given as goal
 
 abbrev pub invariant-loop-k : goal.invariant-loop-k

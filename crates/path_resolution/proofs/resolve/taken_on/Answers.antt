@@ -1,4 +1,3 @@
-use borrow.Author.Rules.{rules}
 use Rattle.path_resolution.proofs.resolve.taken_on.Goals as goal
 
 pub returns-then-ok-taken : goal.returns-then-ok-taken

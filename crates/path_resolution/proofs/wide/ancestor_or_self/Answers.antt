@@ -2,7 +2,6 @@ use mathlib.Core.Path.{sym}
 use borrow.Author.Tests.{eq-eqb}
 use Rattle.csdl.specs.Find.{ancestor_or_self}
 use Rattle.type_hierarchy.proofs.Past.{ancestor-or_self_past, ancestor-or_self_high}
-use borrow.Author.Rules.{rules}
 use Rattle.path_resolution.proofs.wide.ancestor_or_self.Goals as goal
 
 pub returns-then-t-a : goal.returns-then-t-a

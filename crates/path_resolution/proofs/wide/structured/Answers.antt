@@ -1,6 +1,5 @@
 use mathlib.Core.Path.{sym}
 use Rattle.type_hierarchy.proofs.Past.{structured_past}
-use borrow.Author.Rules.{rules}
 use Rattle.path_resolution.proofs.wide.structured.Goals as goal
 
 pub returns-then-x-ge64 : goal.returns-then-x-ge64

@@ -1,11 +1,8 @@
-use Prim.Native.Nat.{ℕ, ◌-◌, ◌≤◌}
+use Prim.Native.Nat.{ℕ}
 use mathlib.Core.Path.{◌≡◌, ap, ◌∙◌}
 use mathlib.Core.List.{List}
 use lib.ListN.{length}
 use native.Mathlib.Omega.{arith}
-use Rattle.csdl.specs.Tables.{type_base}
-use Rattle.csdl.specs.Climb.{climb}
-use Rattle.type_hierarchy.specs.AncestorSets.{rows_to}
 use Rattle.type_hierarchy.proofs.AncestorSets.{alone, rows_start, rows_more, rows_size, bases_most}
 use borrow.Author.Rules.{rules}
 use Rattle.type_hierarchy.proofs.ancestors.all_ancestors.Goals as goal

@@ -1,6 +1,5 @@
 use mathlib.Core.Path.{◌∙◌}
 use Rattle.csdl.specs.Find.{ancestor_or_self}
-use borrow.Author.Rules.{rules}
 use Rattle.type_hierarchy.proofs.ancestors.ancestor_or_self.Goals as goal
 
 pub returns-then-a-lt64 : goal.returns-then-a-lt64

@@ -8,7 +8,6 @@ use Rattle.csdl.specs.Climb.{climb}
 use Rattle.csdl.specs.Model.{model_of}
 use Rattle.csdl.specs.Find.{ancestor}
 use Rattle.type_hierarchy.proofs.AncestorSets.{rows_size, rows_row}
-use borrow.Author.Rules.{rules}
 use Rattle.type_hierarchy.proofs.ancestors.ancestors_at.Goals as goal
 
 pub bounds-ancestors-t : goal.bounds-ancestors-t

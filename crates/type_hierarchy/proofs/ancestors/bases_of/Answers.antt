@@ -1,11 +1,11 @@
-use Prim.Native.Nat.{ℕ, ◌-◌, ◌≤◌}
+use Prim.Native.Nat.{ℕ}
 use mathlib.Core.Path.{◌≡◌, ap, ◌∙◌}
 use mathlib.Core.List.{List}
 use lib.ListN.{length}
 use native.Mathlib.Omega.{arith}
 use Rattle.csdl.proofs.Logic.{tab-length}
 use Rattle.type_hierarchy.proofs.Tables.{tab-more}
-use Rattle.type_hierarchy.proofs.AncestorSets.{bases_to, bases_start, bases_end}
+use Rattle.type_hierarchy.proofs.AncestorSets.{bases_start, bases_end}
 use borrow.Author.Rules.{rules}
 use Rattle.type_hierarchy.proofs.ancestors.bases_of.Goals as goal
 

@@ -1,12 +1,7 @@
-use Prim.Native.Nat.{ℕ, ◌-◌, ◌≤◌}
-use mathlib.Core.Path.{◌≡◌, ap, ◌∙◌}
-use mathlib.Core.List.{List}
+use Prim.Native.Nat.{◌-◌, ◌≤◌}
+use mathlib.Core.Path.{◌≡◌}
 use lib.ListN.{length}
-use native.Mathlib.Omega.{arith}
-use Rattle.csdl.proofs.Logic.{tab-length}
-use Rattle.type_hierarchy.proofs.Tables.{tab-more}
-use Rattle.type_hierarchy.proofs.AncestorSets.{bases_to, bases_start, bases_end}
-use borrow.Author.Rules.{rules}
+use Rattle.type_hierarchy.proofs.AncestorSets.{bases_to}
 use Rattle.type_hierarchy.proofs.ancestors.bases_of.Given as goal
 
 abbrev pub invariant-loop-t : goal.invariant-loop-t

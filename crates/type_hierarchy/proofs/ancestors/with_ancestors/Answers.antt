@@ -4,7 +4,6 @@ use mathlib.Core.Bool.{or_comm}
 use lib.Dec.{eqb}
 use Rattle.csdl.specs.Model.{model_of}
 use Rattle.csdl.specs.Find.{ancestor_or_self, ancestor}
-use borrow.Author.Rules.{rules}
 use Rattle.type_hierarchy.proofs.ancestors.with_ancestors.Goals as goal
 
 pub returns : goal.returns

@@ -1,6 +1,5 @@
 use Rattle.csdl.specs.Model.{model_of}
 use Rattle.csdl.specs.Find.{ancestor}
-use borrow.Author.Rules.{rules}
 use Rattle.type_hierarchy.proofs.bases.ancestor.Goals as goal
 
 pub returns : goal.returns

@@ -1,6 +1,5 @@
 use Rattle.csdl.specs.Find.{ancestor_or_self}
 use borrow.Author.Tests.{eq-eqb, ne_eqb}
-use borrow.Author.Rules.{rules}
 use Rattle.type_hierarchy.proofs.bases.ancestor_or_self.Goals as goal
 
 pub returns-then-t-a : goal.returns-then-t-a

@@ -1,8 +1,5 @@
-use Prim.Native.Nat.{◌-◌, ◌≤◌}
 use mathlib.Core.Path.{◌≡◌}
 use native.Mathlib.Omega.{arith}
-use Rattle.type_hierarchy.specs.Sets.{Members}
-use Rattle.type_hierarchy.specs.KeyOwners.{owns_key}
 use Rattle.type_hierarchy.proofs.Owners.{owners_none, owners_more}
 use borrow.Author.Rules.{rules}
 use Rattle.type_hierarchy.proofs.key_owners.key_owners.Goals as goal

@@ -1,6 +1,5 @@
 use Rattle.csdl.specs.Model.{model_of}
 use Rattle.csdl.specs.Find.{of_kind}
-use borrow.Author.Rules.{rules}
 use Rattle.type_hierarchy.proofs.kinds.of_kind.Goals as goal
 
 pub returns : goal.returns

@@ -1,5 +1,4 @@
 use Rattle.type_hierarchy.proofs.Climbing.{is_nearness}
-use borrow.Author.Rules.{rules}
 use Rattle.type_hierarchy.proofs.nearness.nearness_of.Goals as goal
 
 pub returns : goal.returns

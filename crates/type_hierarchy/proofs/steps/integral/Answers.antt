@@ -1,6 +1,5 @@
 use Rattle.csdl.specs.Model.{model_of}
 use Rattle.csdl.specs.Find.{integral, complex_step, contain_step, of_kind}
-use borrow.Author.Rules.{rules}
 use Rattle.type_hierarchy.proofs.steps.integral.Goals as goal
 
 pub returns : goal.returns

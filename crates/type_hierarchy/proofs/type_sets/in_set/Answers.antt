@@ -1,6 +1,5 @@
 use mathlib.Core.Path.{refl}
 use Rattle.type_hierarchy.specs.Sets.{member}
-use borrow.Author.Rules.{rules}
 use Rattle.type_hierarchy.proofs.type_sets.in_set.Goals as goal
 
 pub returns : goal.returns

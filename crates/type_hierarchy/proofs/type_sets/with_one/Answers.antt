@@ -5,7 +5,6 @@ use borrow.Author.Tests.{ne_eqb}
 use Rattle.type_hierarchy.specs.Sets.{member}
 use Rattle.packed.proofs.Laws.{one_shl}
 use Rattle.type_hierarchy.proofs.SetLaws.{member-or, member-one}
-use borrow.Author.Rules.{rules}
 use Rattle.type_hierarchy.proofs.type_sets.with_one.Goals as goal
 
 pub returns-then-x-lt64 : goal.returns-then-x-lt64

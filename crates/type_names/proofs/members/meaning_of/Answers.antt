@@ -1,13 +1,12 @@
-use Prim.Native.Nat.{ℕ, ◌+◌, ◌-◌, ◌≤◌, ◌<◌, zero-le}
+use Prim.Native.Nat.{ℕ, ◌+◌, zero-le}
 use mathlib.Core.Path.{◌≡◌, refl, ap, ◌∙◌}
 use mathlib.Core.List.{List}
 use native.Mathlib.Omega.{arith}
 use lib.ListN.{length, get_or}
-use Rattle.csdl.specs.Tables.{type_base, type_count, property_count, property_owner}
+use Rattle.csdl.specs.Tables.{type_base, type_count, property_count}
 use Rattle.type_hierarchy.specs.Near.{left_at, only}
-use Rattle.type_hierarchy.specs.Nearness.{nearness_of}
 use Rattle.type_hierarchy.proofs.Climbing.{nearness_size, nearness_at}
-use Rattle.type_names.proofs.Meanings.{entry-below, entry-fits, entry_doubled, Meant, meant_start, meant_nearer, meant_farther, meaning}
+use Rattle.type_names.proofs.Meanings.{entry-below, entry-fits, entry_doubled, meant_start, meant_nearer, meant_farther, meaning}
 use borrow.Author.Rules.{rules}
 use Rattle.type_names.proofs.members.meaning_of.Goals as goal
 use Rattle.type_names.proofs.members.meaning_of.Goals.{then-near-h, else-near-h}
@@ -45,8 +44,9 @@ loop-p-preserved c = let small = c.loop-p.invariant.5 c.loop-p.p (omega arith) i
       search rules,
       c.loop-p.invariant.1,
       elim c.if-near-h.branch [
-        then-near-h w ↦ rw (w.found-is, w.near-is) (meant_nearer _ _ _ _ _ _ _ _ c.loop-p.invariant.2 _ refl (omega (arith, small)) _ e w.if-near-h.true)
-      | else-near-h w ↦ rw (w.found-is, w.near-is) (meant_farther _ _ _ _ _ _ _ _ c.loop-p.invariant.2 (get_or c.args.index.now (512 + c.loop-p.p) 0) refl (omega (arith, small)) _ e w.if-near-h.false) ],
+        | then-near-h w ↦ rw (w.found-is, w.near-is) (meant_nearer _ _ _ _ _ _ _ _ c.loop-p.invariant.2 _ refl (omega (arith, small)) _ e w.if-near-h.true)
+        | else-near-h w ↦ rw (w.found-is, w.near-is) (meant_farther _ _ _ _ _ _ _ _ c.loop-p.invariant.2 (get_or c.args.index.now (512 + c.loop-p.p) 0) refl (omega (arith, small)) _ e w.if-near-h.false)
+      ],
       c.loop-p.invariant.3,
       c.loop-p.invariant.4,
       c.loop-p.invariant.5,

@@ -1,15 +1,9 @@
-use Prim.Native.Nat.{ℕ, ◌+◌, ◌-◌, ◌≤◌, ◌<◌, zero-le}
-use mathlib.Core.Path.{◌≡◌, refl, ap, ◌∙◌}
-use mathlib.Core.List.{List}
-use mathlib.Core.Logic.{⊎_elim}
-use native.Mathlib.Omega.{arith}
+use Prim.Native.Nat.{ℕ, ◌+◌, ◌-◌, ◌≤◌, ◌<◌}
+use mathlib.Core.Path.{◌≡◌}
 use lib.ListN.{length, get_or}
 use Rattle.csdl.specs.Tables.{type_base, type_count, property_count, property_owner}
-use Rattle.type_hierarchy.specs.Near.{left_at, only}
 use Rattle.type_hierarchy.specs.Nearness.{nearness_of}
-use Rattle.type_hierarchy.proofs.Climbing.{nearness_size, nearness_at}
-use Rattle.type_names.proofs.Meanings.{entry-below, entry-fits, entry_doubled, Meant, meant_start, meant_nearer, meant_farther, meaning}
-use borrow.Author.Rules.{rules}
+use Rattle.type_names.proofs.Meanings.{Meant}
 use Rattle.type_names.proofs.members.meaning_of.Given as goal
 
 abbrev pub invariant-loop-p : goal.invariant-loop-p

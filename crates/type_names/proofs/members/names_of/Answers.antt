@@ -1,18 +1,16 @@
-use Prim.Native.Nat.{ℕ, ◌+◌, ◌-◌, ◌≤◌}
+use Prim.Native.Nat.{ℕ, ◌+◌}
 use mathlib.Core.Path.{◌≡◌, refl, sym, ◌∙◌}
 use mathlib.Core.List.{[]}
 use mathlib.Core.Bool.{Bool, true, false, ◌&&◌}
 use native.Mathlib.Numerals.{add-one}
 use native.Mathlib.Omega.{arith}
-use lib.ListN.{length, get_or}
+use lib.ListN.{length}
 use lib.Dec.{ltb}
 use borrow.Author.Tests.{eq-eqb, ne_eqb}
 use Rattle.csdl.specs.Tables.{property_count}
 use Rattle.csdl.specs.Model.{model_of}
 use Rattle.csdl.specs.Find.{is_name_of}
-use Rattle.name_classes.specs.Classes.{name_of, Ranked}
 use Rattle.type_names.specs.Wide.{MembersWide}
-use Rattle.type_names.specs.Nearest.{Meaning}
 use Rattle.type_names.proofs.WideLaws.{wide-none, below_with, below_without, below_none}
 use Rattle.type_names.proofs.Meanings.{entry_lt, name_meant}
 use borrow.Author.Rules.{rules}
@@ -41,8 +39,9 @@ pub loop-p-preserved : goal.loop-p-preserved
 loop-p-preserved c = let test : ℕ → Bool = (λ q. is_name_of (model_of [] c.args.types.now c.args.properties.now [] [] [] [] [] c.args.names.now) c.args.t q) in
     let e = name_meant c.args.types.now c.args.properties.now c.args.names.now c.args.index.now c.args.t c.loop-p.invariant.6 c.loop-p.p (omega arith) c.meaning_of-found.result (omega arith) c.loop-p.invariant.5 in
     let s : (length c.if-found-index.set ≡ 8) × MembersWide c.if-found-index.set 0 (λ q. ltb q (c.loop-p.p + 1) && test q) = elim c.if-found-index.branch [
-      then-found-index w ↦ (let t : test c.loop-p.p ≡ true = sym e ∙ eq-eqb _ _ (w.if-found-index.true ∙ add-one c.loop-p.p) in rw w.set-is (w.with_wide-next.ensures.0, λ q h. w.with_wide-next.ensures.1 q h ∙ rw (c.loop-p.invariant.4 q h) (below_with test c.loop-p.p q t)))
-    | else-found-index w ↦ (let t : test c.loop-p.p ≡ false = sym e ∙ ne_eqb _ _ (λ y. w.if-found-index.false (y ∙ sym (add-one c.loop-p.p))) in rw w.set-is (c.loop-p.invariant.3, λ q h. c.loop-p.invariant.4 q h ∙ below_without test c.loop-p.p q t)) ] in
+      | then-found-index w ↦ (let t : test c.loop-p.p ≡ true = sym e ∙ eq-eqb _ _ (w.if-found-index.true ∙ add-one c.loop-p.p) in rw w.set-is (w.with_wide-next.ensures.0, λ q h. w.with_wide-next.ensures.1 q h ∙ rw (c.loop-p.invariant.4 q h) (below_with test c.loop-p.p q t)))
+      | else-found-index w ↦ (let t : test c.loop-p.p ≡ false = sym e ∙ ne_eqb _ _ (λ y. w.if-found-index.false (y ∙ sym (add-one c.loop-p.p))) in rw w.set-is (c.loop-p.invariant.3, λ q h. c.loop-p.invariant.4 q h ∙ below_without test c.loop-p.p q t))
+    ] in
     (search rules, search rules, c.loop-p.invariant.2, s.0, s.1, c.loop-p.invariant.5, c.loop-p.invariant.6)
 
 pub returns : goal.returns

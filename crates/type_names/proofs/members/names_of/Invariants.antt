@@ -1,22 +1,15 @@
-use Prim.Native.Nat.{ℕ, ◌+◌, ◌-◌, ◌≤◌}
-use mathlib.Core.Path.{◌≡◌, refl, sym, ◌∙◌}
-use mathlib.Core.Logic.{⊎_elim}
+use Prim.Native.Nat.{◌-◌, ◌≤◌}
+use mathlib.Core.Path.{◌≡◌}
 use mathlib.Core.List.{[]}
-use mathlib.Core.Bool.{Bool, true, false, ◌&&◌}
-use native.Mathlib.Numerals.{add-one}
-use native.Mathlib.Omega.{arith}
+use mathlib.Core.Bool.{◌&&◌}
 use lib.ListN.{length, get_or}
 use lib.Dec.{ltb}
-use borrow.Author.Tests.{eq-eqb, ne_eqb}
 use Rattle.csdl.specs.Tables.{property_count}
 use Rattle.csdl.specs.Model.{model_of}
 use Rattle.csdl.specs.Find.{is_name_of}
 use Rattle.name_classes.specs.Classes.{name_of, Ranked}
 use Rattle.type_names.specs.Wide.{MembersWide}
 use Rattle.type_names.specs.Nearest.{Meaning}
-use Rattle.type_names.proofs.WideLaws.{wide-none, below_with, below_without, below_none}
-use Rattle.type_names.proofs.Meanings.{entry_lt, name_meant}
-use borrow.Author.Rules.{rules}
 use Rattle.type_names.proofs.members.names_of.Given as goal
 
 abbrev pub invariant-loop-p : goal.invariant-loop-p

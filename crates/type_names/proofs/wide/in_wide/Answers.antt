@@ -1,5 +1,4 @@
 use Rattle.type_names.specs.Wide.{wide}
-use borrow.Author.Rules.{rules}
 use Rattle.type_names.proofs.wide.in_wide.Goals as goal
 
 pub returns : goal.returns

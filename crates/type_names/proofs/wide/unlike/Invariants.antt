@@ -1,10 +1,6 @@
 use Prim.Native.Nat.{ℕ, ◌+◌, ◌-◌, ◌≤◌, ◌<◌}
 use mathlib.Core.Path.{◌≡◌}
-use borrow.Author.Count.{below_more}
-use native.Mathlib.Omega.{arith}
 use lib.ListN.{length, get_or}
-use Rattle.type_names.proofs.WideLaws.{unlike_here, unlike_none}
-use borrow.Author.Rules.{rules}
 use Rattle.type_names.proofs.wide.unlike.Given as goal
 
 abbrev pub invariant-loop-k : goal.invariant-loop-k

@@ -1,8 +1,5 @@
-use Prim.Native.Nat.{◌-◌, ◌<◌}
-use mathlib.Core.Path.{◌≡◌}
 use native.Mathlib.Omega.{arith}
-use lib.ListN.{length}
-use Rattle.type_names.proofs.WideLaws.{Writing, writing_start, writing_next, writing_end}
+use Rattle.type_names.proofs.WideLaws.{writing_start, writing_next, writing_end}
 use borrow.Author.Rules.{rules}
 use Rattle.type_names.proofs.wide.with_row.Goals as goal
 

@@ -1,9 +1,7 @@
 use Prim.Native.Nat.{◌-◌, ◌<◌}
 use mathlib.Core.Path.{◌≡◌}
-use native.Mathlib.Omega.{arith}
 use lib.ListN.{length}
-use Rattle.type_names.proofs.WideLaws.{Writing, writing_start, writing_next, writing_end}
-use borrow.Author.Rules.{rules}
+use Rattle.type_names.proofs.WideLaws.{Writing}
 use Rattle.type_names.proofs.wide.with_row.Given as goal
 
 abbrev pub invariant-loop-k : goal.invariant-loop-k

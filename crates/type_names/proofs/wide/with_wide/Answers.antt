@@ -1,6 +1,5 @@
 use lib.ListN.{length-set}
 use Rattle.type_names.proofs.WideLaws.{wide_with}
-use borrow.Author.Rules.{rules}
 use Rattle.type_names.proofs.wide.with_wide.Goals as goal
 
 pub returns : goal.returns
