@@ -1,3 +1,5 @@
+use mathlib.Core.Path.{◌≡◌}
+use native.Mathlib.Omega.{arith}
 use borrow.Author.Tests.{ne_eqb}
 use Rattle.csdl.specs.Members.{fits}
 use borrow.Author.Rules.{rules}
@@ -25,4 +27,11 @@ returns-in-13 c = rw c.in-13.is c.in_range-in-13.ensures
 
 pub returns-in_default : goal.returns-in_default
 unfolding fits
-returns-in_default c = simp (ne_eqb _ _ c.in_default.rest.0.0.0.0.1, ne_eqb _ _ c.in_default.rest.0.0.0.1, ne_eqb _ _ c.in_default.rest.0.0.1, ne_eqb _ _ c.in_default.rest.0.1, ne_eqb _ _ c.in_default.rest.1)
+returns-in_default c =
+    let n = c.args.code in
+    let three : n ≡ 3 → ⊥ = omega arith in
+    let ten : n ≡ 10 → ⊥ = omega arith in
+    let eleven : n ≡ 11 → ⊥ = omega arith in
+    let twelve : n ≡ 12 → ⊥ = omega arith in
+    let thirteen : n ≡ 13 → ⊥ = omega arith in
+    simp (ne_eqb _ _ three, ne_eqb _ _ ten, ne_eqb _ _ eleven, ne_eqb _ _ twelve, ne_eqb _ _ thirteen)
