@@ -1,6 +1,5 @@
 use Rattle.csdl.specs.Members.{members_means}
 use Rattle.demands.specs.Word.{word}
-use borrow.Author.Rules.{rules}
 use Rattle.demands.proofs.members_word.Goals as goal
 
 pub returns-in-Conforms : goal.returns-in-Conforms

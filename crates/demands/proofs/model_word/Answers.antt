@@ -1,6 +1,5 @@
 use Rattle.csdl.specs.Verdict.{model_means}
 use Rattle.demands.specs.Word.{word}
-use borrow.Author.Rules.{rules}
 use Rattle.demands.proofs.model_word.Goals as goal
 
 pub returns-in-Accepted : goal.returns-in-Accepted

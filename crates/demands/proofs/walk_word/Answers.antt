@@ -1,6 +1,5 @@
 use Rattle.csdl.specs.Verdict.{walk_means}
 use Rattle.demands.specs.Word.{word}
-use borrow.Author.Rules.{rules}
 use Rattle.demands.proofs.walk_word.Goals as goal
 
 pub returns-in-Walked : goal.returns-in-Walked

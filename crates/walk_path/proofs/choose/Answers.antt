@@ -1,6 +1,5 @@
 use mathlib.Core.Path.{◌∙◌}
 use Rattle.walk_path.proofs.Choices.{far, record_is}
-use borrow.Author.Rules.{rules}
 use Rattle.walk_path.proofs.choose.Goals as goal
 
 pub returns-then-place-ge65536 : goal.returns-then-place-ge65536

@@ -1,5 +1,4 @@
 use borrow.Author.Tests.{eq-eqb, ne_eqb}
-use borrow.Author.Rules.{rules}
 use Rattle.walk_path.proofs.if_present.Goals as goal
 
 pub returns-then-run-eq0 : goal.returns-then-run-eq0

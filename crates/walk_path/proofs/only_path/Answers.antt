@@ -1,5 +1,4 @@
 use borrow.Author.Tests.{eq-eqb, ne_eqb}
-use borrow.Author.Rules.{rules}
 use Rattle.walk_path.proofs.only_path.Goals as goal
 
 pub returns-then-path-eq0 : goal.returns-then-path-eq0

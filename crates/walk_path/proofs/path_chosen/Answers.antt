@@ -1,5 +1,4 @@
 use Rattle.csdl.specs.Walk.{path_chosen}
-use borrow.Author.Rules.{rules}
 use Rattle.walk_path.proofs.path_chosen.Goals as goal
 
 pub returns-in-OfSchema : goal.returns-in-OfSchema

@@ -1,4 +1,3 @@
-use borrow.Author.Rules.{rules}
 use Rattle.walk_path.proofs.walk_27.Goals as goal
 
 pub returns-in-NoPath : goal.returns-in-NoPath

@@ -4,7 +4,6 @@ use Rattle.csdl.specs.Find.{ancestor_or_self, ancestor}
 use Rattle.csdl.specs.Instance.{instance_of}
 use Rattle.csdl.specs.Walk.{walk28}
 use borrow.Author.Tests.{lt-ltb, le-ltb}
-use borrow.Author.Rules.{rules}
 use Rattle.walk_path.proofs.walk_28.Goals as goal
 
 pub returns-then-v-node_count : goal.returns-then-v-node_count

@@ -1,6 +1,5 @@
 use Rattle.csdl.specs.Instance.{instance_of}
 use Rattle.csdl.specs.Walk.{walk29}
-use borrow.Author.Rules.{rules}
 use Rattle.walk_path.proofs.walk_29.Goals as goal
 
 pub returns : goal.returns
