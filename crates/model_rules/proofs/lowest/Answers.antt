@@ -26,7 +26,7 @@ pub lowest_18-requires : goal.lowest_18-requires
 lowest_18-requires c = (c.requires.0, c.requires.4.ancestors_made (omega (arith, c.in-18.is)))
 
 pub lowest_19-requires : goal.lowest_19-requires
-lowest_19-requires c = let e = last_stage c.requires.1 c.requires.2 c.in_default.in_default-own.rest in
+lowest_19-requires c = let e = last_stage {X = Unit {0}} c.requires.1 c.requires.2 (search rules) in
     (c.requires.0, c.requires.4.index_made (omega (arith, e)), c.requires.4.codes_kept (omega (arith, e)), c.requires.4.ancestors_made (omega (arith, e)), rw e at c.requires.3)
 
 pub returns-in-3 : goal.returns-in-3
@@ -159,7 +159,7 @@ returns-in-18 c = record {
 
 pub returns-in_default : goal.returns-in_default
 unfolding rule_no
-returns-in_default c = let e = last_stage c.requires.1 c.requires.2 c.in_default.in_default-own.rest in record {
+returns-in_default c = let e = last_stage {X = Unit {0}} c.requires.1 c.requires.2 (search rules) in record {
       value = rw e c.lowest_19.ensures;
       coded = λ h. c.requires.4.codes_kept (omega (arith, e));
       codes_unchanged = unchanged;
