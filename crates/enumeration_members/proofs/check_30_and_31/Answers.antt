@@ -2,7 +2,6 @@ use mathlib.Core.Path.{sym, ◌∙◌}
 use Rattle.csdl.specs.Verdict.{verdict}
 use Rattle.csdl.specs.Members.{members_means}
 use Rattle.model_image.proofs.Parts.{layout}
-use borrow.Author.Rules.{rules}
 use Rattle.enumeration_members.proofs.check_30_and_31.Goals as goal
 
 pub returns-then-bad_later_image : goal.returns-then-bad_later_image

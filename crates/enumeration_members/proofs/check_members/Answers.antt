@@ -1,7 +1,6 @@
 use mathlib.Core.Path.{sym, ◌∙◌}
 use Rattle.csdl.specs.Members.{members_answer, members_means}
 use Rattle.model_check.proofs.Then.{then_on, model_passes, model_stops}
-use borrow.Author.Rules.{rules}
 use Rattle.enumeration_members.proofs.check_members.Goals as goal
 
 pub check_30_and_31-requires : goal.check_30_and_31-requires

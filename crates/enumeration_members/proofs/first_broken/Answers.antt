@@ -1,6 +1,5 @@
 use Rattle.csdl.specs.Members.{members_means}
 use Rattle.enumeration_members.proofs.Whole.{fitting, answers}
-use borrow.Author.Rules.{rules}
 use Rattle.enumeration_members.proofs.first_broken.Goals as goal
 
 pub first_30-form-requires : goal.first_30-form-requires

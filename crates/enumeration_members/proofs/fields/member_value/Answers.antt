@@ -3,7 +3,6 @@ use mathlib.Core.Path.{◌≡◌}
 use native.Mathlib.Omega.{arith}
 use Rattle.packed.proofs.Laws.{field_lt}
 use Rattle.enumeration_members.proofs.Words.{three_words}
-use borrow.Author.Rules.{rules}
 use Rattle.enumeration_members.proofs.fields.member_value.Goals as goal
 
 pub overflow_mul-result-2 : goal.overflow_mul-result-2

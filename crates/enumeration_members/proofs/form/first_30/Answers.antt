@@ -1,12 +1,7 @@
 use borrow.Author.Rules.{rules}
-use Prim.Native.Nat.{◌-◌, ◌≤◌}
 use mathlib.Core.Path.{sym}
-use mathlib.Core.List.{[]}
 use native.Mathlib.Omega.{arith}
-use Rattle.csdl.specs.Model.{model_of}
-use Rattle.csdl.specs.Members.{members_of, member30}
-use Rattle.csdl.proofs.Loops.{First, first-start, first-hit, first_next, first_end}
-use Rattle.rules_names.specs.Identifiers.{Limits}
+use Rattle.csdl.proofs.Loops.{first-start, first-hit, first_next, first_end}
 use Rattle.enumeration_members.proofs.form.first_30.Goals as goal
 
 pub loop-member-init : goal.loop-member-init

@@ -1,5 +1,4 @@
 use mathlib.Core.Bool.{not-not}
-use borrow.Author.Rules.{rules}
 use Rattle.enumeration_members.proofs.form.misplaced.Goals as goal
 
 pub returns : goal.returns

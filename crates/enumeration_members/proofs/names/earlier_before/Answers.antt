@@ -3,7 +3,6 @@ use Rattle.name_classes.specs.Order.{before}
 use Rattle.name_classes.proofs.Before.{equal_head, other_head}
 use borrow.Author.Tests.{ne_eqb}
 use mathlib.Core.Path.{sym}
-use borrow.Author.Rules.{rules}
 use Rattle.enumeration_members.proofs.names.earlier_before.Goals as goal
 
 pub returns-then-s-t : goal.returns-then-s-t

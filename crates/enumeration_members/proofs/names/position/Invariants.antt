@@ -1,11 +1,9 @@
-use borrow.Author.Rules.{rules}
 use Prim.Native.Nat.{◌-◌, ◌≤◌, ◌<◌}
 use mathlib.Core.List.{◌∷◌}
-use native.Mathlib.Omega.{arith}
 use lib.ListN.{length}
 use Rattle.csdl.specs.Members.{members_of}
 use Rattle.name_classes.specs.Classes.{Sorted}
-use Rattle.name_classes.proofs.Sorting.{Between, between_start, between_up, between_down, between_end}
+use Rattle.name_classes.proofs.Sorting.{Between}
 use Rattle.enumeration_members.specs.Earlier.{member_key}
 use Rattle.enumeration_members.proofs.names.position.Given as goal
 

@@ -1,5 +1,4 @@
 use Rattle.enumeration_members.proofs.Keys.{repeated-here, repeated_past}
-use borrow.Author.Rules.{rules}
 use Rattle.enumeration_members.proofs.names.repeats_name.Goals as goal
 
 pub returns-then-at-member : goal.returns-then-at-member

@@ -1,16 +1,12 @@
 use borrow.Author.Rules.{rules}
-use Prim.Native.Nat.{◌-◌, ◌≤◌}
 use mathlib.Core.Path.{refl, sym, ◌∙◌}
-use mathlib.Core.List.{[]}
 use mathlib.Core.Bool.{◌||◌}
 use native.Mathlib.Omega.{arith}
 use lib.Dec.{eqb}
-use Rattle.csdl.specs.Model.{model_of}
-use Rattle.csdl.specs.Members.{members_of, member_type_in, member31}
+use Rattle.csdl.specs.Members.{members_of, member_type_in}
 use Rattle.csdl.proofs.Logic.{or_no}
-use Rattle.csdl.proofs.Loops.{First, first-start, first-hit, first_next, first_end}
+use Rattle.csdl.proofs.Loops.{first-start, first-hit, first_next, first_end}
 use Rattle.csdl.proofs.Settle.{count-le}
-use Rattle.enumeration_members.specs.Earlier.{Ordered, Tally}
 use Rattle.enumeration_members.proofs.Earlier.{tally_none, tally_next}
 use Rattle.enumeration_members.proofs.Keys.{ordered_none, ordered_next}
 use Rattle.enumeration_members.proofs.Clauses.{by_clauses}
@@ -48,9 +44,9 @@ insert-requires c = (c.position-at.ensures.most, omega (arith, c.loop-member.inv
 pub overflow_add-counts : goal.overflow_add-counts
 unfolding members_of
 overflow_add-counts c = record {
-      fits =
-          omega (arith, c.loop-member.invariant.0, c.loop-member.invariant.2.count c.member_type-t.result c.member_type-t.ensures.1, count-le (λ s. eqb (member_type_in c.args.table.now s) c.member_type-t.result) 0 c.loop-member.member);
-    }
+  fits =
+      omega (arith, c.loop-member.invariant.0, c.loop-member.invariant.2.count c.member_type-t.result c.member_type-t.ensures.1, count-le (λ s. eqb (member_type_in c.args.table.now s) c.member_type-t.result) 0 c.loop-member.member);
+}
 
 pub loop-member-preserved : goal.loop-member-preserved
 unfolding members_of

@@ -1,19 +1,9 @@
-use borrow.Author.Rules.{rules}
 use Prim.Native.Nat.{◌-◌, ◌≤◌}
-use mathlib.Core.Path.{refl, sym, ◌∙◌}
 use mathlib.Core.List.{[]}
-use mathlib.Core.Bool.{◌||◌}
-use native.Mathlib.Omega.{arith}
-use lib.Dec.{eqb}
 use Rattle.csdl.specs.Model.{model_of}
-use Rattle.csdl.specs.Members.{members_of, member_type_in, member31}
-use Rattle.csdl.proofs.Logic.{or_no}
-use Rattle.csdl.proofs.Loops.{First, first-start, first-hit, first_next, first_end}
-use Rattle.csdl.proofs.Settle.{count-le}
+use Rattle.csdl.specs.Members.{members_of, member31}
+use Rattle.csdl.proofs.Loops.{First}
 use Rattle.enumeration_members.specs.Earlier.{Ordered, Tally}
-use Rattle.enumeration_members.proofs.Earlier.{tally_none, tally_next}
-use Rattle.enumeration_members.proofs.Keys.{ordered_none, ordered_next}
-use Rattle.enumeration_members.proofs.Clauses.{by_clauses}
 use Rattle.enumeration_members.proofs.series.first_31.Given as goal
 
 abbrev pub invariant-loop-member : goal.invariant-loop-member

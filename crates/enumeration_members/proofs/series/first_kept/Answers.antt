@@ -1,5 +1,4 @@
 use Rattle.enumeration_members.proofs.Earlier.{first-stays}
-use borrow.Author.Rules.{rules}
 use Rattle.enumeration_members.proofs.series.first_kept.Goals as goal
 
 pub returns-then-first-eq0 : goal.returns-then-first-eq0

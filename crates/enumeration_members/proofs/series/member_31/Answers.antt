@@ -1,5 +1,4 @@
 use Rattle.enumeration_members.proofs.Clauses.{by_earlier}
-use borrow.Author.Rules.{rules}
 use Rattle.enumeration_members.proofs.series.member_31.Goals as goal
 
 pub returns : goal.returns

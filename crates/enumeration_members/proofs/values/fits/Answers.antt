@@ -2,7 +2,6 @@ use mathlib.Core.Path.{◌≡◌}
 use native.Mathlib.Omega.{arith}
 use borrow.Author.Tests.{ne_eqb}
 use Rattle.csdl.specs.Members.{fits}
-use borrow.Author.Rules.{rules}
 use Rattle.enumeration_members.proofs.values.fits.Goals as goal
 
 pub returns-in-3 : goal.returns-in-3

@@ -1,6 +1,5 @@
 use native.Mathlib.Omega.{arith}
 use Rattle.enumeration_members.proofs.Signs.{below_range, above_range}
-use borrow.Author.Rules.{rules}
 use Rattle.enumeration_members.proofs.values.in_range.Goals as goal
 
 pub returns-then-field-lt9223372036854775808 : goal.returns-then-field-lt9223372036854775808

@@ -1,4 +1,3 @@
-use borrow.Author.Rules.{rules}
 use Rattle.enumeration_members.proofs.values.misfits.Goals as goal
 
 pub returns : goal.returns

@@ -1,6 +1,5 @@
 use native.Mathlib.Omega.{arith}
 use Rattle.enumeration_members.proofs.Signs.{small_field}
-use borrow.Author.Rules.{rules}
 use Rattle.enumeration_members.proofs.values.value_field.Goals as goal
 
 pub returns-then-member_given : goal.returns-then-member_given
