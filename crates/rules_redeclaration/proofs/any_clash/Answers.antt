@@ -1,20 +1,9 @@
-use Prim.Native.Nat.{◌≤◌}
 use mathlib.Core.Path.{sym, ◌∙◌}
-use mathlib.Core.List.{[]}
 use native.Mathlib.Omega.{arith}
-use lib.ListN.{length}
-use Rattle.csdl.specs.Tables.{property_count, property_type_ref}
-use Rattle.csdl.specs.Model.{model_of}
-use Rattle.csdl.specs.Find.{ancestor}
-use Rattle.type_hierarchy.specs.Sets.{Members}
 use Rattle.csdl.proofs.Logic.{any_of}
-use Rattle.name_classes.specs.Classes.{name_of}
-use Rattle.lookup.specs.Index.{Indexed}
 use Rattle.lookup.proofs.Chain.{alike-start}
-use Rattle.lookup.proofs.Looking.{remaining, on-start, on-reach, on_below, on_less, Searched, searched_start, searched_next, searched_end}
-use Rattle.rules_redeclaration.specs.Clashes.{clash}
-use Rattle.rules_redeclaration.proofs.Named.{clash-named, clash-is}
-use borrow.Author.Rules.{rules}
+use Rattle.lookup.proofs.Looking.{on-start, on-reach, on_below, on_less, searched_start, searched_next, searched_end}
+use Rattle.rules_redeclaration.proofs.Named.{clash-is}
 use Rattle.rules_redeclaration.proofs.any_clash.Goals as goal
 
 pub first_alike-at-requires : goal.first_alike-at-requires

@@ -1,9 +1,7 @@
-use borrow.Author.Tests.{not-true, not-false}
 use Rattle.csdl.specs.Model.{model_of}
 use Rattle.csdl.specs.Find.{ancestor}
 use Rattle.csdl.specs.Properties as rules
 use Rattle.rules_redeclaration.specs.Clashes.{clashing}
-use borrow.Author.Rules.{rules}
 use Rattle.rules_redeclaration.proofs.clashes.Goals as goal
 
 pub returns-then-not-in_set : goal.returns-then-not-in_set

@@ -1,5 +1,4 @@
 use mathlib.Core.Path.{◌∙◌}
-use borrow.Author.Rules.{rules}
 use Rattle.rules_redeclaration.proofs.is_above.Goals as goal
 
 pub returns-then-a-lt64 : goal.returns-then-a-lt64

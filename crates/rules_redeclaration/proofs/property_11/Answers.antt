@@ -4,7 +4,6 @@ use mathlib.Core.Bool.{true, false}
 use Rattle.csdl.specs.Model.{model_of}
 use Rattle.csdl.specs.Properties as rules
 use Rattle.rules_redeclaration.proofs.Frame.{property_11a_frame}
-use borrow.Author.Rules.{rules}
 use Rattle.rules_redeclaration.proofs.property_11.Goals as goal
 
 pub returns-then-declared_before : goal.returns-then-declared_before

@@ -1,4 +1,3 @@
-use borrow.Author.Rules.{rules}
 use Rattle.rules_redeclaration.proofs.same_owner.Goals as goal
 
 pub returns : goal.returns

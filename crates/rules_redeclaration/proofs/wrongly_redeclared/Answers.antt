@@ -8,7 +8,6 @@ use Rattle.csdl.specs.Find.{ancestor}
 use Rattle.type_hierarchy.specs.Sets.{member}
 use Rattle.rules_redeclaration.specs.Clashes.{clash}
 use Rattle.rules_redeclaration.proofs.Any.{clash-any, clash-none}
-use borrow.Author.Rules.{rules}
 use Rattle.rules_redeclaration.proofs.wrongly_redeclared.Goals as goal
 
 pub returns-then-above-eq0 : goal.returns-then-above-eq0

@@ -4,7 +4,6 @@ use Rattle.csdl.specs.Model.{model_of}
 use Rattle.rules_names.proofs.Fingerprints.{fingerprints_apart}
 use Rattle.rules_bindings.specs.Bindings.{again_bound}
 use Rattle.rules_bindings.proofs.Comparing.{bindings_apart}
-use borrow.Author.Rules.{rules}
 use Rattle.rules_bindings.proofs.bindings.again_bound.Goals as goal
 
 pub returns-then-fingerprints-j : goal.returns-then-fingerprints-j

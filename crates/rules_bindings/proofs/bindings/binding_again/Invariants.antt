@@ -1,10 +1,8 @@
 use Prim.Native.Nat.{◌-◌}
 use mathlib.Core.List.{[]}
-use native.Mathlib.Omega.{arith}
 use Rattle.csdl.specs.Model.{model_of}
-use Rattle.csdl.proofs.Loops.{Any, any-start, any-hit, any_next, any_end}
-use Rattle.rules_bindings.specs.Bindings.{again_bound, binding_again}
-use borrow.Author.Rules.{rules}
+use Rattle.csdl.proofs.Loops.{Any}
+use Rattle.rules_bindings.specs.Bindings.{again_bound}
 use Rattle.rules_bindings.proofs.bindings.binding_again.Given as goal
 
 abbrev pub invariant-loop-j : goal.invariant-loop-j

@@ -3,7 +3,6 @@ use native.Mathlib.Nat.{add-zero}
 use borrow.Author.Tests.{eq-eqb, ne_eqb}
 use Rattle.csdl.specs.Model.{model_of}
 use Rattle.rules_bindings.specs.Bindings.{binding_fingerprint}
-use borrow.Author.Rules.{rules}
 use Rattle.rules_bindings.proofs.bindings.binding_fingerprint.Goals as goal
 
 pub returns-then-n-eq0 : goal.returns-then-n-eq0

@@ -1,5 +1,4 @@
 use Rattle.csdl.specs.Model.{model_of}
-use borrow.Author.Rules.{rules}
 use Rattle.rules_bindings.proofs.bindings.target_under_set.Goals as goal
 
 pub returns : goal.returns

@@ -3,7 +3,6 @@ use mathlib.Core.Bool.{not, ◌&&◌, ◌||◌}
 use Rattle.csdl.specs.Model.{model_of}
 use Rattle.csdl.specs.Find.{of_kind, has_key, ancestor_or_self, ancestor}
 use Rattle.csdl.specs.Paths.{child18}
-use borrow.Author.Rules.{rules}
 use Rattle.rules_bindings.proofs.children.child_18.Goals as goal
 
 pub returns : goal.returns

@@ -2,7 +2,6 @@ use mathlib.Core.Path.{◌∙◌}
 use Rattle.csdl.specs.Model.{model_of}
 use Rattle.csdl.specs.Find.{has_key, ancestor_or_self, ancestor}
 use Rattle.type_hierarchy.proofs.Owners.{owners_meet}
-use borrow.Author.Rules.{rules}
 use Rattle.rules_bindings.proofs.children.has_key.Goals as goal
 
 pub returns : goal.returns

@@ -3,7 +3,6 @@ use mathlib.Core.Bool.{not}
 use Rattle.csdl.specs.Model.{model_of}
 use Rattle.csdl.specs.Find.{has_key, ancestor_or_self, ancestor}
 use Rattle.csdl.specs.Paths.{property18a}
-use borrow.Author.Rules.{rules}
 use Rattle.rules_bindings.proofs.children.property_18.Goals as goal
 
 pub returns-then-property_navigation-property_contains : goal.returns-then-property_navigation-property_contains

@@ -1,6 +1,5 @@
 use borrow.Author.Tests.{lt-ltb, le-ltb}
 use Rattle.rules_bindings.specs.Bindings.{class_of}
-use borrow.Author.Rules.{rules}
 use Rattle.rules_bindings.proofs.classes.class_of.Goals as goal
 
 pub returns-then-code-lt512 : goal.returns-then-code-lt512

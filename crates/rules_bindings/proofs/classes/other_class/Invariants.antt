@@ -1,13 +1,10 @@
 use Prim.Native.Nat.{◌+◌, ◌-◌, ◌<◌}
-use mathlib.Core.Path.{◌≡◌, ap, ap₂}
+use mathlib.Core.Path.{◌≡◌}
 use mathlib.Core.Bool.{not}
-use native.Mathlib.Omega.{arith}
 use lib.Dec.{eqb}
 use lib.ListN.{length, get_or}
-use borrow.Author.Tests.{eq-eqb, ne_eqb}
-use Rattle.csdl.proofs.Loops.{Any, any-start, any-hit, any_next, any_end}
+use Rattle.csdl.proofs.Loops.{Any}
 use Rattle.rules_bindings.specs.Bindings.{class_of}
-use borrow.Author.Rules.{rules}
 use Rattle.rules_bindings.proofs.classes.other_class.Given as goal
 
 abbrev pub invariant-loop-k : goal.invariant-loop-k

@@ -7,7 +7,6 @@ use Rattle.csdl.specs.Paths.{non_containment}
 use Rattle.path_steps.specs.Steps.{step_test}
 use Rattle.rules_bindings.specs.Bindings.{binding_codes}
 use Rattle.rules_bindings.proofs.LastName.{form_none, form_name}
-use borrow.Author.Rules.{rules}
 use Rattle.rules_bindings.proofs.forms.binding_codes.Goals as goal
 
 pub returns-then-last-eq0 : goal.returns-then-last-eq0

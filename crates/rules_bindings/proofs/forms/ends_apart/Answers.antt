@@ -1,5 +1,4 @@
 use Rattle.rules_bindings.specs.Bindings.{ends_apart}
-use borrow.Author.Rules.{rules}
 use Rattle.rules_bindings.proofs.forms.ends_apart.Goals as goal
 
 pub returns : goal.returns

@@ -1,5 +1,4 @@
 use Rattle.rules_bindings.specs.Bindings.{target_codes}
-use borrow.Author.Rules.{rules}
 use Rattle.rules_bindings.proofs.forms.target_codes.Goals as goal
 
 pub returns : goal.returns

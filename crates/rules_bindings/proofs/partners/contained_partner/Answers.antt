@@ -1,10 +1,9 @@
 use mathlib.Core.Path.{ap}
 use mathlib.Core.Bool.{not}
-use borrow.Author.Tests.{eq-eqb, ne_eqb, not-true, not-false}
+use borrow.Author.Tests.{eq-eqb, ne_eqb}
 use Rattle.csdl.specs.Model.{model_of}
 use Rattle.csdl.specs.Find.{top}
 use Rattle.rules_bindings.specs.Partners.{contained_partner}
-use borrow.Author.Rules.{rules}
 use Rattle.rules_bindings.proofs.partners.contained_partner.Goals as goal
 
 pub returns-then-not-property_contains : goal.returns-then-not-property_contains

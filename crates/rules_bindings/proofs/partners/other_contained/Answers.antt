@@ -4,12 +4,11 @@ use mathlib.Core.Bool.{true, false}
 use Prim.Native.Nat.{◌*◌}
 use Rattle.packed.proofs.Laws.{field_lt}
 use Rattle.csdl.specs.Tables.{property_owner}
-use borrow.Author.Tests.{not-true, not-false, lt-ltb, le-ltb}
+use borrow.Author.Tests.{lt-ltb, le-ltb}
 use Rattle.csdl.specs.Model.{model_of}
 use Rattle.csdl.specs.Find.{ancestor_or_self, ancestor}
 use Rattle.csdl.specs.Path.{path_of}
 use Rattle.rules_bindings.specs.Partners.{partner_last, other_contains}
-use borrow.Author.Rules.{rules}
 use Rattle.rules_bindings.proofs.partners.other_contained.Goals as goal
 
 pub returns-then-not-other_with_partner : goal.returns-then-not-other_with_partner

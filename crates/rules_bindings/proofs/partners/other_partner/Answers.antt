@@ -1,7 +1,6 @@
 use borrow.Author.Tests.{eq-eqb, ne_eqb}
 use Rattle.csdl.specs.Model.{model_of}
 use Rattle.rules_bindings.specs.Partners.{other_partner}
-use borrow.Author.Rules.{rules}
 use Rattle.rules_bindings.proofs.partners.other_partner.Goals as goal
 
 pub returns-then-path-eq0 : goal.returns-then-path-eq0

@@ -1,4 +1,3 @@
-use borrow.Author.Rules.{rules}
 use Rattle.rules_bindings.proofs.partners.other_with_partner.Goals as goal
 
 pub returns : goal.returns

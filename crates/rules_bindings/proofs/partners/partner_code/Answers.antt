@@ -1,7 +1,6 @@
 use Rattle.csdl.specs.Model.{model_of}
 use Rattle.csdl.specs.Path.{path_of}
 use Rattle.rules_bindings.specs.Partners.{partner_last}
-use borrow.Author.Rules.{rules}
 use Rattle.rules_bindings.proofs.partners.partner_code.Goals as goal
 
 pub returns : goal.returns

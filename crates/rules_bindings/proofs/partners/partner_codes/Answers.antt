@@ -1,5 +1,4 @@
 use Rattle.rules_bindings.specs.Partners.{partner_codes}
-use borrow.Author.Rules.{rules}
 use Rattle.rules_bindings.proofs.partners.partner_codes.Goals as goal
 
 pub returns : goal.returns

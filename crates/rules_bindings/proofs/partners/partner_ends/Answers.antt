@@ -4,7 +4,6 @@ use Rattle.csdl.specs.Model.{model_of}
 use Rattle.csdl.specs.Find.{ancestor_or_self, ancestor}
 use Rattle.csdl.specs.Path.{path_of}
 use Rattle.rules_bindings.specs.Partners.{partner_last, other_partner, partner_ends}
-use borrow.Author.Rules.{rules}
 use Rattle.rules_bindings.proofs.partners.partner_ends.Goals as goal
 
 pub returns : goal.returns

@@ -4,7 +4,6 @@ use borrow.Author.Tests.{eq-eqb, ne_eqb}
 use Rattle.csdl.specs.Model.{model_of}
 use Rattle.csdl.specs.Path.{path_of}
 use Rattle.rules_bindings.specs.Partners.{partner_last, partner_coded}
-use borrow.Author.Rules.{rules}
 use Rattle.rules_bindings.proofs.partners.property_17.Goals as goal
 
 pub returns-then-path-eq0 : goal.returns-then-path-eq0

@@ -1,11 +1,9 @@
-use Prim.Native.Nat.{◌-◌, ◌≤◌}
 use mathlib.Core.Path.{◌∙◌, ap}
 use mathlib.Core.List.{[]}
 use native.Mathlib.Omega.{arith}
-use borrow.Author.Tests.{not-true, not-false}
 use Rattle.csdl.specs.Search.{any_from}
 use Rattle.csdl.specs.Model.{model_of}
-use Rattle.csdl.proofs.Loops.{Any, any-start, any-hit, any_next, any_end}
+use Rattle.csdl.proofs.Loops.{any-start, any-hit, any_next, any_end}
 use Rattle.rules_bindings.specs.Partners.{other_contains, shared_containment}
 use borrow.Author.Rules.{rules}
 use Rattle.rules_bindings.proofs.partners.shared_containment.Goals as goal

@@ -1,13 +1,8 @@
 use Prim.Native.Nat.{◌-◌, ◌≤◌}
-use mathlib.Core.Path.{◌∙◌, ap}
 use mathlib.Core.List.{[]}
-use native.Mathlib.Omega.{arith}
-use borrow.Author.Tests.{not-true, not-false}
-use Rattle.csdl.specs.Search.{any_from}
 use Rattle.csdl.specs.Model.{model_of}
-use Rattle.csdl.proofs.Loops.{Any, any-start, any-hit, any_next, any_end}
-use Rattle.rules_bindings.specs.Partners.{other_contains, shared_containment}
-use borrow.Author.Rules.{rules}
+use Rattle.csdl.proofs.Loops.{Any}
+use Rattle.rules_bindings.specs.Partners.{other_contains}
 use Rattle.rules_bindings.proofs.partners.shared_containment.Given as goal
 
 abbrev pub invariant-loop-x : goal.invariant-loop-x

@@ -1,6 +1,5 @@
 use Rattle.csdl.specs.Model.{model_of}
 use Rattle.csdl.specs.Form.{child4, name4}
-use borrow.Author.Rules.{rules}
 use Rattle.rules_fields.proofs.numbers.child_4.Goals as goal
 
 pub returns : goal.returns

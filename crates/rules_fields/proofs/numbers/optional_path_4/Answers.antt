@@ -1,7 +1,6 @@
 use Rattle.csdl.specs.Model.{model_of}
 use Rattle.csdl.specs.Form.{optional_path4}
 use borrow.Author.Tests.{eq-eqb, ne_eqb}
-use borrow.Author.Rules.{rules}
 use Rattle.rules_fields.proofs.numbers.optional_path_4.Goals as goal
 
 pub returns-then-count-eq0 : goal.returns-then-count-eq0

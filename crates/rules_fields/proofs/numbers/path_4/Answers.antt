@@ -1,7 +1,6 @@
 use mathlib.Core.Bool.{not-not}
 use Rattle.csdl.specs.Model.{model_of}
 use Rattle.csdl.specs.Form.{path4, optional_path4}
-use borrow.Author.Rules.{rules}
 use Rattle.rules_fields.proofs.numbers.path_4.Goals as goal
 
 pub returns : goal.returns

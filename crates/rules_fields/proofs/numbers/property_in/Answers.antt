@@ -1,7 +1,6 @@
 use Rattle.csdl.specs.Model.{model_of}
 use Rattle.csdl.specs.Image.{model_in}
 use Rattle.csdl.specs.Form.{property4, name4, optional_path4, reference4h}
-use borrow.Author.Rules.{rules}
 use Rattle.rules_fields.proofs.numbers.property_in.Goals as goal
 
 pub returns : goal.returns

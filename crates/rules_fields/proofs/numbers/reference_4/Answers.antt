@@ -1,6 +1,5 @@
 use Rattle.csdl.specs.Model.{model_of}
 use Rattle.csdl.specs.Form.{reference4h}
-use borrow.Author.Rules.{rules}
 use Rattle.rules_fields.proofs.numbers.reference_4.Goals as goal
 
 pub returns : goal.returns

@@ -1,5 +1,4 @@
 use Rattle.csdl.specs.Form.{rule4}
-use borrow.Author.Rules.{rules}
 use Rattle.rules_fields.proofs.numbers.rule_4.Goals as goal
 
 pub returns-in-OfSchema : goal.returns-in-OfSchema

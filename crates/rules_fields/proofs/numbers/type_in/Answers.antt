@@ -1,7 +1,6 @@
 use Rattle.csdl.specs.Model.{model_of}
 use Rattle.csdl.specs.Image.{model_in}
 use Rattle.csdl.specs.Form.{type4, name4}
-use borrow.Author.Rules.{rules}
 use Rattle.rules_fields.proofs.numbers.type_in.Goals as goal
 
 pub returns : goal.returns

@@ -1,7 +1,6 @@
 use Rattle.csdl.specs.Model.{model_of}
 use Rattle.csdl.specs.Image.{model_in}
 use Rattle.csdl.specs.Form.{rule3}
-use borrow.Author.Rules.{rules}
 use Rattle.rules_fields.proofs.spare.rule_3.Goals as goal
 
 pub returns-in-OfSchema : goal.returns-in-OfSchema

@@ -1,7 +1,6 @@
 use Rattle.csdl.specs.Model.{model_of}
 use Rattle.csdl.specs.Find.{of_kind}
 use Rattle.csdl.specs.Paths.{both_complex}
-use borrow.Author.Rules.{rules}
 use Rattle.rules_keys.proofs.constraints.both_complex.Goals as goal
 
 pub returns : goal.returns

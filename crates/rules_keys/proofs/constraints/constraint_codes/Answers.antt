@@ -1,5 +1,4 @@
 use Rattle.rules_keys.specs.Constraints.{constraint_codes}
-use borrow.Author.Rules.{rules}
 use Rattle.rules_keys.proofs.constraints.constraint_codes.Goals as goal
 
 pub returns : goal.returns

@@ -1,7 +1,6 @@
 use Rattle.csdl.specs.Model.{model_of}
 use Rattle.csdl.specs.Paths.{same_shape, other_shape, other_nullable}
 use Rattle.rules_keys.specs.Constraints.{constraint_ends}
-use borrow.Author.Rules.{rules}
 use Rattle.rules_keys.proofs.constraints.constraint_ends.Goals as goal
 
 pub returns : goal.returns

@@ -1,7 +1,6 @@
 use Rattle.csdl.specs.Model.{model_of}
 use Rattle.csdl.specs.Paths.{other_nullable}
 use Rattle.rules_keys.proofs.Orders.{unlike_true, unlike_false}
-use borrow.Author.Rules.{rules}
 use Rattle.rules_keys.proofs.constraints.other_nullable.Goals as goal
 
 pub returns-then-property_nullable : goal.returns-then-property_nullable

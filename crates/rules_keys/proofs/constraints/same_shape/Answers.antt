@@ -1,6 +1,5 @@
 use Rattle.csdl.specs.Model.{model_of}
 use Rattle.csdl.specs.Paths.{same_shape}
-use borrow.Author.Rules.{rules}
 use Rattle.rules_keys.proofs.constraints.same_shape.Goals as goal
 
 pub returns : goal.returns

@@ -5,7 +5,6 @@ use Rattle.csdl.specs.Model.{model_of}
 use Rattle.rules_names.proofs.Fingerprints.{fingerprints_apart}
 use Rattle.rules_keys.specs.Keys.{again_named}
 use Rattle.rules_keys.proofs.Split.{keys_apart}
-use borrow.Author.Rules.{rules}
 use Rattle.rules_keys.proofs.keys.again_named.Goals as goal
 
 pub returns-then-fingerprints-j : goal.returns-then-fingerprints-j

@@ -1,7 +1,6 @@
 use Rattle.csdl.specs.Model.{model_of}
 use Rattle.csdl.specs.Find.{find, own, declares}
 use Rattle.rules_keys.specs.Keys.{alias_fails}
-use borrow.Author.Rules.{rules}
 use Rattle.rules_keys.proofs.keys.alias_fails.Goals as goal
 
 pub returns : goal.returns

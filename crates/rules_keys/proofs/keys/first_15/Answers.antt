@@ -1,15 +1,10 @@
 use borrow.Author.Rules.{rules}
-use Prim.Native.Nat.{◌-◌, ◌≤◌}
-use mathlib.Core.Path.{◌≡◌, refl, sym}
-use mathlib.Core.List.{[]}
-use lib.ListN.{length, length-set}
+use mathlib.Core.Path.{refl, sym}
+use lib.ListN.{length-set}
 use native.Mathlib.Nat.{lt_of_lt_of_le}
 use native.Mathlib.Omega.{arith}
-use Rattle.csdl.specs.Model.{model_of}
-use Rattle.csdl.proofs.Loops.{First, first-start, first-hit, first_next, first_end}
-use Rattle.rules_names.specs.Digests.{Fingerprinted}
+use Rattle.csdl.proofs.Loops.{first-start, first-hit, first_next, first_end}
 use Rattle.rules_names.proofs.Fingerprints.{fingerprinted_none, fingerprinted_more}
-use Rattle.rules_keys.specs.Keys.{key_fingerprint, key_coded}
 use Rattle.rules_keys.proofs.Split.{key_split}
 use Rattle.rules_keys.proofs.keys.first_15.Goals as goal
 
@@ -34,14 +29,14 @@ returns-then-owner_or_path_fails-key_named c = rw (← c.key_count-n.ensures.0)
 
 pub loop-k-preserved : goal.loop-k-preserved
 loop-k-preserved c = (
-      c.loop-k.invariant.0,
-      simp length-set c.loop-k.invariant.1,
-      fingerprinted_more _ c.loop-k.k c.loop-k.fingerprints c.key_fingerprint.result (rw c.loop-k.invariant.1 (lt_of_lt_of_le c.loop-k-test.true c.loop-k.invariant.0)) c.key_fingerprint.ensures c.loop-k.invariant.2,
-      first_next _ _ _ _ c.loop-k.invariant.3 c.loop-k-test.true
-          (key_split c.args.types.now c.args.properties.now c.args.keys.now c.args.names.now c.args.codes.now c.loop-k.k _ _ _
-          c.owner_or_path_fails.ensures c.key_named.ensures c.alias_fails.ensures)
-          c.if-owner_or_path_fails-key_named.false,
-    )
+  c.loop-k.invariant.0,
+  simp length-set c.loop-k.invariant.1,
+  fingerprinted_more _ c.loop-k.k c.loop-k.fingerprints c.key_fingerprint.result (rw c.loop-k.invariant.1 (lt_of_lt_of_le c.loop-k-test.true c.loop-k.invariant.0)) c.key_fingerprint.ensures c.loop-k.invariant.2,
+  first_next _ _ _ _ c.loop-k.invariant.3 c.loop-k-test.true
+      (key_split c.args.types.now c.args.properties.now c.args.keys.now c.args.names.now c.args.codes.now c.loop-k.k _ _ _
+      c.owner_or_path_fails.ensures c.key_named.ensures c.alias_fails.ensures)
+      c.if-owner_or_path_fails-key_named.false,
+)
 
 pub returns : goal.returns
 returns c = rw (← c.key_count-n.ensures.0) (first_end _ _ _ c.loop-k.invariant.3 (omega arith))

@@ -1,16 +1,11 @@
-use borrow.Author.Rules.{rules}
 use Prim.Native.Nat.{◌-◌, ◌≤◌}
-use mathlib.Core.Path.{◌≡◌, refl, sym}
+use mathlib.Core.Path.{◌≡◌}
 use mathlib.Core.List.{[]}
-use lib.ListN.{length, length-set}
-use native.Mathlib.Nat.{lt_of_lt_of_le}
-use native.Mathlib.Omega.{arith}
+use lib.ListN.{length}
 use Rattle.csdl.specs.Model.{model_of}
-use Rattle.csdl.proofs.Loops.{First, first-start, first-hit, first_next, first_end}
+use Rattle.csdl.proofs.Loops.{First}
 use Rattle.rules_names.specs.Digests.{Fingerprinted}
-use Rattle.rules_names.proofs.Fingerprints.{fingerprinted_none, fingerprinted_more}
 use Rattle.rules_keys.specs.Keys.{key_fingerprint, key_coded}
-use Rattle.rules_keys.proofs.Split.{key_split}
 use Rattle.rules_keys.proofs.keys.first_15.Given as goal
 
 abbrev pub invariant-loop-k : goal.invariant-loop-k

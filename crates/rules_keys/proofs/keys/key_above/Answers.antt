@@ -3,7 +3,6 @@ use Rattle.csdl.specs.Model.{model_of}
 use Rattle.csdl.specs.Find.{ancestor}
 use Rattle.csdl.specs.Paths.{key15b}
 use Rattle.type_hierarchy.proofs.Owners.{owners_meet}
-use borrow.Author.Rules.{rules}
 use Rattle.rules_keys.proofs.keys.key_above.Goals as goal
 
 pub returns : goal.returns

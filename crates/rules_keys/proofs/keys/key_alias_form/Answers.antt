@@ -2,7 +2,6 @@ use lib.Dec.{ltb}
 use borrow.Author.Tests.{eq-eqb, ne_eqb}
 use Rattle.csdl.specs.Model.{model_of}
 use Rattle.rules_keys.proofs.Orders.{not_twice, at_most}
-use borrow.Author.Rules.{rules}
 use Rattle.rules_keys.proofs.keys.key_alias_form.Goals as goal
 
 pub returns-then-alias-eq0 : goal.returns-then-alias-eq0

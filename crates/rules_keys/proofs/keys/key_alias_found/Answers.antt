@@ -1,7 +1,6 @@
 use borrow.Author.Tests.{eq-eqb, ne_eqb}
 use Rattle.csdl.specs.Model.{model_of}
 use Rattle.csdl.specs.Find.{find, own, declares}
-use borrow.Author.Rules.{rules}
 use Rattle.rules_keys.proofs.keys.key_alias_found.Goals as goal
 
 pub returns-then-alias-eq0 : goal.returns-then-alias-eq0

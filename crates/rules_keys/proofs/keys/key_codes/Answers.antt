@@ -3,7 +3,6 @@ use Rattle.csdl.specs.Find.{complex_step, of_kind}
 use Rattle.csdl.specs.Paths.{key_step, key_end, key_type}
 use Rattle.path_steps.specs.Steps.{step_test}
 use Rattle.rules_keys.specs.Keys.{key_codes}
-use borrow.Author.Rules.{rules}
 use Rattle.rules_keys.proofs.keys.key_codes.Goals as goal
 
 pub returns : goal.returns

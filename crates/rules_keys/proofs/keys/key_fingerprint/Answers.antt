@@ -1,6 +1,5 @@
 use Rattle.csdl.specs.Model.{model_of}
 use Rattle.rules_keys.specs.Keys.{key_fingerprint}
-use borrow.Author.Rules.{rules}
 use Rattle.rules_keys.proofs.keys.key_fingerprint.Goals as goal
 
 pub returns : goal.returns

@@ -1,7 +1,6 @@
 use borrow.Author.Tests.{eq-eqb, ne_eqb, le-leb, lt-leb}
 use Rattle.csdl.specs.Model.{model_of}
 use Rattle.rules_keys.specs.Keys.{coded_name}
-use borrow.Author.Rules.{rules}
 use Rattle.rules_keys.proofs.keys.key_name.Goals as goal
 
 pub returns-then-run-eq0 : goal.returns-then-run-eq0

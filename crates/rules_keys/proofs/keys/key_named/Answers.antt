@@ -1,10 +1,6 @@
-use Prim.Native.Nat.{◌-◌}
-use mathlib.Core.List.{[]}
 use native.Mathlib.Omega.{arith}
-use Rattle.csdl.specs.Model.{model_of}
-use Rattle.csdl.proofs.Loops.{Any, any-start, any-hit, any_next, any_end}
-use Rattle.rules_keys.specs.Keys.{again_named, named_again}
-use borrow.Author.Rules.{rules}
+use Rattle.csdl.proofs.Loops.{any-start, any-hit, any_next, any_end}
+use Rattle.rules_keys.specs.Keys.{named_again}
 use Rattle.rules_keys.proofs.keys.key_named.Goals as goal
 
 pub loop-j-init : goal.loop-j-init

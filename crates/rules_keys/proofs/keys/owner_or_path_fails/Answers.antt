@@ -3,7 +3,6 @@ use Rattle.csdl.specs.Find.{complex_step, of_kind, ancestor}
 use Rattle.csdl.specs.Paths.{key_step, key_end, key_type, key15b}
 use Rattle.path_steps.specs.Steps.{step_test}
 use Rattle.rules_keys.specs.Keys.{key_codes, owner_or_path_fails}
-use borrow.Author.Rules.{rules}
 use Rattle.rules_keys.proofs.keys.owner_or_path_fails.Goals as goal
 
 pub returns : goal.returns

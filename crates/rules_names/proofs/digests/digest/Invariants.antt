@@ -1,11 +1,7 @@
-use borrow.Author.Rules.{rules}
-use Prim.Native.Nat.{ℕ, min, ◌+◌, ◌*◌, ◌-◌, ◌/◌, ◌≤◌, ◌<◌}
-use mathlib.Core.Path.{◌≡◌, refl, ◌∙◌, ap}
-use native.Mathlib.Omega.{arith}
+use Prim.Native.Nat.{min, ◌+◌, ◌*◌, ◌-◌, ◌/◌, ◌≤◌, ◌<◌}
+use mathlib.Core.Path.{◌≡◌}
 use lib.ListN.{length}
-use Rattle.packed.proofs.Laws.{field_lt}
-use Rattle.rules_names.specs.Digests.{digest_to, digest_of}
-use Rattle.rules_names.proofs.Fingerprints.{digest_next}
+use Rattle.rules_names.specs.Digests.{digest_to}
 use Rattle.rules_names.proofs.digests.digest.Given as goal
 
 abbrev pub invariant-loop-i : goal.invariant-loop-i

@@ -1,5 +1,4 @@
 use Rattle.rules_names.specs.Digests.{fingerprint_of}
-use borrow.Author.Rules.{rules}
 use Rattle.rules_names.proofs.digests.fingerprint_of.Goals as goal
 
 pub returns : goal.returns

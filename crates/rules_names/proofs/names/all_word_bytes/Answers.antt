@@ -1,8 +1,4 @@
-use Prim.Native.Nat.{◌-◌}
-use lib.ListN.{length}
-use Rattle.csdl.specs.Form.{is_word_byte}
-use borrow.Author.Rules.{rules}
-use Rattle.rules_names.proofs.Dots.{All, every}
+use Rattle.rules_names.proofs.Dots.{every}
 use Rattle.rules_names.proofs.names.all_word_bytes.Goals as goal
 
 pub loop-i-init : goal.loop-i-init

@@ -1,8 +1,7 @@
 use Prim.Native.Nat.{◌-◌}
 use lib.ListN.{length}
 use Rattle.csdl.specs.Form.{is_word_byte}
-use borrow.Author.Rules.{rules}
-use Rattle.rules_names.proofs.Dots.{All, every}
+use Rattle.rules_names.proofs.Dots.{All}
 use Rattle.rules_names.proofs.names.all_word_bytes.Given as goal
 
 abbrev pub invariant-loop-i : goal.invariant-loop-i

@@ -1,4 +1,3 @@
-use borrow.Author.Rules.{rules}
 use Rattle.rules_names.proofs.names.identifier_limit.Goals as goal
 
 pub returns-then-is_digit : goal.returns-then-is_digit

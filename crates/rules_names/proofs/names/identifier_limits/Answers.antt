@@ -1,8 +1,6 @@
-use Prim.Native.Nat.{◌-◌}
 use mathlib.Core.Path.{◌≡◌}
 use native.Mathlib.Omega.{arith}
-use Rattle.rules_names.proofs.Identifiers.{Limited, limited_start, limited_next, limited_end}
-use borrow.Author.Rules.{rules}
+use Rattle.rules_names.proofs.Identifiers.{limited_start, limited_next, limited_end}
 use Rattle.rules_names.proofs.names.identifier_limits.Goals as goal
 
 pub loop-i-init : goal.loop-i-init

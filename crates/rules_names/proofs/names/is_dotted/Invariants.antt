@@ -1,11 +1,9 @@
-use borrow.Author.Rules.{rules}
 use Prim.Native.Nat.{◌+◌, ◌-◌, ◌≤◌}
-use mathlib.Core.Path.{◌≡◌, sym, ◌∙◌}
+use mathlib.Core.Path.{◌≡◌}
 use lib.ListN.{length, drop}
 use Rattle.csdl.specs.Search.{all}
 use Rattle.csdl.specs.Form.{simple, dotted}
 use Rattle.rules_names.specs.Dots.{until_dot}
-use Rattle.rules_names.proofs.Dots.{parts_next, parts_stop, parts_end}
 use Rattle.rules_names.proofs.names.is_dotted.Given as goal
 
 abbrev pub invariant-loop-e : goal.invariant-loop-e

@@ -1,6 +1,5 @@
 use borrow.Author.Tests.{lt-leb, le-leb}
 use Rattle.csdl.specs.Form.{simple}
-use borrow.Author.Rules.{rules}
 use Rattle.rules_names.proofs.names.is_simple.Goals as goal
 
 pub returns-then-s-lt1 : goal.returns-then-s-lt1

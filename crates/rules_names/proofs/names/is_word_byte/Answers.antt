@@ -1,6 +1,5 @@
 use mathlib.Core.Path.{sym, ◌∙◌}
 use Rattle.csdl.specs.Form.{is_word_byte}
-use borrow.Author.Rules.{rules}
 use Rattle.rules_names.proofs.names.is_word_byte.Goals as goal
 
 pub returns-then-is_letter : goal.returns-then-is_letter

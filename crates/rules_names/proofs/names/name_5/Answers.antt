@@ -3,7 +3,6 @@ use lib.ListN.{drop}
 use Rattle.csdl.specs.Model.{model_of}
 use Rattle.csdl.specs.Form.{name5a}
 use Rattle.rules_names.proofs.Identifiers.{simple_limit}
-use borrow.Author.Rules.{rules}
 use Rattle.rules_names.proofs.names.name_5.Goals as goal
 
 pub overflow_cast-result : goal.overflow_cast-result

@@ -1,6 +1,5 @@
 use Rattle.csdl.specs.Model.{model_of}
 use Rattle.csdl.specs.Form.{namespace5b}
-use borrow.Author.Rules.{rules}
 use Rattle.rules_names.proofs.names.namespace_5.Goals as goal
 
 pub returns : goal.returns

@@ -1,9 +1,6 @@
-use Prim.Native.Nat.{◌+◌, ◌-◌, ◌≤◌}
-use mathlib.Core.Path.{◌≡◌, refl, ◌∙◌}
-use lib.ListN.{length, drop}
+use mathlib.Core.Path.{refl, ◌∙◌}
 use native.Mathlib.Omega.{arith}
 use borrow.Author.Rules.{rules}
-use Rattle.rules_names.specs.Dots.{until_dot}
 use Rattle.rules_names.proofs.Dots.{dot_here, dot_later, dot_none}
 use Rattle.rules_names.proofs.names.part_end.Goals as goal
 

@@ -1,10 +1,7 @@
 use Prim.Native.Nat.{◌+◌, ◌-◌, ◌≤◌}
-use mathlib.Core.Path.{◌≡◌, refl, ◌∙◌}
+use mathlib.Core.Path.{◌≡◌}
 use lib.ListN.{length, drop}
-use native.Mathlib.Omega.{arith}
-use borrow.Author.Rules.{rules}
 use Rattle.rules_names.specs.Dots.{until_dot}
-use Rattle.rules_names.proofs.Dots.{dot_here, dot_later, dot_none}
 use Rattle.rules_names.proofs.names.part_end.Given as goal
 
 abbrev pub invariant-loop-i : goal.invariant-loop-i

@@ -1,7 +1,6 @@
 use Rattle.csdl.specs.Model.{model_of}
 use Rattle.csdl.specs.Image.{model_in}
 use Rattle.csdl.specs.Form.{rule5, namespace5b, alias5a, name5a}
-use borrow.Author.Rules.{rules}
 use Rattle.rules_names.proofs.names.rule_5.Goals as goal
 
 pub schema_5-requires : goal.schema_5-requires

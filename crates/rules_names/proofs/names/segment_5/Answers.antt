@@ -1,6 +1,5 @@
 use Rattle.csdl.specs.Model.{model_of}
 use Rattle.csdl.specs.Form.{rule5, name5a}
-use borrow.Author.Rules.{rules}
 use Rattle.rules_names.proofs.names.segment_5.Goals as goal
 
 pub name_5-requires : goal.name_5-requires

@@ -1,10 +1,5 @@
-use borrow.Author.Rules.{rules}
-use Prim.Native.Nat.{◌-◌}
-use mathlib.Core.List.{[]}
-use Rattle.csdl.specs.Model.{model_of}
 use Rattle.csdl.specs.Form.{child7b}
-use Rattle.rules_names.specs.Repeats.{same_child}
-use Rattle.csdl.proofs.Loops.{Any, any}
+use Rattle.csdl.proofs.Loops.{any}
 use Rattle.rules_names.proofs.repeats.child_7.Goals as goal
 
 pub loop-j-init : goal.loop-j-init

@@ -1,10 +1,8 @@
-use borrow.Author.Rules.{rules}
 use Prim.Native.Nat.{◌-◌}
 use mathlib.Core.List.{[]}
 use Rattle.csdl.specs.Model.{model_of}
-use Rattle.csdl.specs.Form.{child7b}
 use Rattle.rules_names.specs.Repeats.{same_child}
-use Rattle.csdl.proofs.Loops.{Any, any}
+use Rattle.csdl.proofs.Loops.{Any}
 use Rattle.rules_names.proofs.repeats.child_7.Given as goal
 
 abbrev pub invariant-loop-j : goal.invariant-loop-j

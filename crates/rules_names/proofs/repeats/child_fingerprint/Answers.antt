@@ -1,6 +1,5 @@
 use Rattle.csdl.specs.Model.{model_of}
 use Rattle.rules_names.specs.Digests.{child_fingerprint}
-use borrow.Author.Rules.{rules}
 use Rattle.rules_names.proofs.repeats.child_fingerprint.Goals as goal
 
 pub returns : goal.returns

@@ -1,13 +1,8 @@
 use borrow.Author.Rules.{rules}
-use Prim.Native.Nat.{◌-◌, ◌≤◌}
-use mathlib.Core.Path.{◌≡◌, refl, sym}
-use mathlib.Core.List.{[]}
-use lib.ListN.{length, length-set}
+use mathlib.Core.Path.{refl, sym}
+use lib.ListN.{length-set}
 use native.Mathlib.Omega.{arith}
-use Rattle.csdl.specs.Model.{model_of}
-use Rattle.csdl.specs.Form.{child7b}
-use Rattle.csdl.proofs.Loops.{First, first-start, first-hit, first_next, first_end}
-use Rattle.rules_names.specs.Digests.{child_fingerprint, Fingerprinted}
+use Rattle.csdl.proofs.Loops.{first-start, first-hit, first_next, first_end}
 use Rattle.rules_names.proofs.Fingerprints.{fingerprinted_none, fingerprinted_more}
 use Rattle.rules_names.proofs.repeats.first_child_7.Goals as goal
 
@@ -25,11 +20,11 @@ returns-then-child_7 c = rw (← c.child_count-n.ensures.0) (first-hit _ _ _ _ c
 
 pub loop-h-preserved : goal.loop-h-preserved
 loop-h-preserved c = (
-      c.loop-h.invariant.0,
-      simp length-set c.loop-h.invariant.1,
-      fingerprinted_more _ c.loop-h.h c.loop-h.fingerprints _ (omega (arith, c.loop-h.invariant.0, c.loop-h.invariant.1)) c.child_fingerprint.ensures c.loop-h.invariant.2,
-      first_next _ _ _ _ c.loop-h.invariant.3 c.loop-h-test.true c.child_7.ensures c.if-child_7.false,
-    )
+  c.loop-h.invariant.0,
+  simp length-set c.loop-h.invariant.1,
+  fingerprinted_more _ c.loop-h.h c.loop-h.fingerprints _ (omega (arith, c.loop-h.invariant.0, c.loop-h.invariant.1)) c.child_fingerprint.ensures c.loop-h.invariant.2,
+  first_next _ _ _ _ c.loop-h.invariant.3 c.loop-h-test.true c.child_7.ensures c.if-child_7.false,
+)
 
 pub returns : goal.returns
 returns c = rw (← c.child_count-n.ensures.0) (first_end _ _ _ c.loop-h.invariant.3 (omega arith))

@@ -1,14 +1,11 @@
-use borrow.Author.Rules.{rules}
 use Prim.Native.Nat.{◌-◌, ◌≤◌}
-use mathlib.Core.Path.{◌≡◌, refl, sym}
+use mathlib.Core.Path.{◌≡◌}
 use mathlib.Core.List.{[]}
-use lib.ListN.{length, length-set}
-use native.Mathlib.Omega.{arith}
+use lib.ListN.{length}
 use Rattle.csdl.specs.Model.{model_of}
 use Rattle.csdl.specs.Form.{child7b}
-use Rattle.csdl.proofs.Loops.{First, first-start, first-hit, first_next, first_end}
+use Rattle.csdl.proofs.Loops.{First}
 use Rattle.rules_names.specs.Digests.{child_fingerprint, Fingerprinted}
-use Rattle.rules_names.proofs.Fingerprints.{fingerprinted_none, fingerprinted_more}
 use Rattle.rules_names.proofs.repeats.first_child_7.Given as goal
 
 abbrev pub invariant-loop-h : goal.invariant-loop-h

@@ -2,7 +2,6 @@ use Prim.Native.Nat.{◌+◌}
 use native.Mathlib.Omega.{arith}
 use Rattle.csdl.specs.Model.{model_of}
 use Rattle.rules_names.proofs.Fingerprints.{fingerprints_apart, children_apart}
-use borrow.Author.Rules.{rules}
 use Rattle.rules_names.proofs.repeats.same_child.Goals as goal
 
 pub returns-then-fingerprints-j : goal.returns-then-fingerprints-j
@@ -11,11 +10,11 @@ returns-then-fingerprints-j c = children_apart _ c.args.h c.args.j (fingerprints
 pub returns : goal.returns
 unfolding model_of
 returns c = rw (
-      ← c.child_name.ensures.0,
-      ← c.child_name.ensures.1,
-      ← c.text_of.ensures,
-      ← c.child_name-2.ensures.0,
-      ← c.child_name-2.ensures.1,
-      ← c.text_of-2.ensures,
-      ← c.same_bytes.ensures,
-    )
+  ← c.child_name.ensures.0,
+  ← c.child_name.ensures.1,
+  ← c.text_of.ensures,
+  ← c.child_name-2.ensures.0,
+  ← c.child_name-2.ensures.1,
+  ← c.text_of-2.ensures,
+  ← c.same_bytes.ensures,
+)

@@ -4,7 +4,6 @@ use borrow.Author.Tests.{eq-eqb, ne_eqb}
 use Rattle.csdl.specs.Model.{model_of}
 use Rattle.csdl.specs.Form.{same_type}
 use Rattle.rules_names.proofs.Fingerprints.{fingerprints_apart, types_apart}
-use borrow.Author.Rules.{rules}
 use Rattle.rules_names.proofs.repeats.same_type.Goals as goal
 
 pub returns-then-fingerprints-u : goal.returns-then-fingerprints-u
@@ -17,14 +16,14 @@ returns-then-type_schema c = rw (← c.type_schema.ensures.0, ← c.type_schema-
 pub returns : goal.returns
 unfolding same_type model_of
 returns c = rw (
-      ← c.type_schema.ensures.0,
-      ← c.type_schema-2.ensures.0,
-      eq-eqb _ _ c.if-type_schema.false,
-      ← c.type_name.ensures.0,
-      ← c.type_name.ensures.1,
-      ← c.text_of.ensures,
-      ← c.type_name-2.ensures.0,
-      ← c.type_name-2.ensures.1,
-      ← c.text_of-2.ensures,
-      ← c.same_bytes.ensures,
-    )
+  ← c.type_schema.ensures.0,
+  ← c.type_schema-2.ensures.0,
+  eq-eqb _ _ c.if-type_schema.false,
+  ← c.type_name.ensures.0,
+  ← c.type_name.ensures.1,
+  ← c.text_of.ensures,
+  ← c.type_name-2.ensures.0,
+  ← c.type_name-2.ensures.1,
+  ← c.text_of-2.ensures,
+  ← c.same_bytes.ensures,
+)

@@ -1,9 +1,5 @@
-use borrow.Author.Rules.{rules}
-use Prim.Native.Nat.{◌-◌}
-use mathlib.Core.List.{[]}
-use Rattle.csdl.specs.Model.{model_of}
-use Rattle.csdl.specs.Form.{same_type, type7a}
-use Rattle.csdl.proofs.Loops.{Any, any}
+use Rattle.csdl.specs.Form.{type7a}
+use Rattle.csdl.proofs.Loops.{any}
 use Rattle.rules_names.proofs.repeats.type_7.Goals as goal
 
 pub loop-u-init : goal.loop-u-init

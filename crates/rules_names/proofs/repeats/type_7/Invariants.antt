@@ -1,9 +1,8 @@
-use borrow.Author.Rules.{rules}
 use Prim.Native.Nat.{◌-◌}
 use mathlib.Core.List.{[]}
 use Rattle.csdl.specs.Model.{model_of}
-use Rattle.csdl.specs.Form.{same_type, type7a}
-use Rattle.csdl.proofs.Loops.{Any, any}
+use Rattle.csdl.specs.Form.{same_type}
+use Rattle.csdl.proofs.Loops.{Any}
 use Rattle.rules_names.proofs.repeats.type_7.Given as goal
 
 abbrev pub invariant-loop-u : goal.invariant-loop-u

@@ -1,6 +1,5 @@
 use Rattle.csdl.specs.Model.{model_of}
 use Rattle.rules_names.specs.Digests.{type_fingerprint}
-use borrow.Author.Rules.{rules}
 use Rattle.rules_names.proofs.repeats.type_fingerprint.Goals as goal
 
 pub returns : goal.returns

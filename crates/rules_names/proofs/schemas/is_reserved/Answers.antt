@@ -1,5 +1,4 @@
 use Rattle.csdl.specs.Form.{reserved}
-use borrow.Author.Rules.{rules}
 use Rattle.rules_names.proofs.schemas.is_reserved.Goals as goal
 
 pub returns : goal.returns

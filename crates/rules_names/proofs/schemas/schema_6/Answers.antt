@@ -1,5 +1,4 @@
 use Rattle.csdl.specs.Form.{schema6}
-use borrow.Author.Rules.{rules}
 use Rattle.rules_names.proofs.schemas.schema_6.Goals as goal
 
 pub returns : goal.returns

@@ -1,9 +1,4 @@
-use borrow.Author.Rules.{rules}
-use Prim.Native.Nat.{◌-◌}
-use mathlib.Core.List.{[]}
-use Rattle.csdl.specs.Model.{model_of}
-use Rattle.csdl.specs.Form.{shares_name}
-use Rattle.csdl.proofs.Loops.{Any, any}
+use Rattle.csdl.proofs.Loops.{any}
 use Rattle.rules_names.proofs.schemas.schema_6c.Goals as goal
 
 pub loop-j-init : goal.loop-j-init

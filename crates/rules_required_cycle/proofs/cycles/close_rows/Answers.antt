@@ -1,9 +1,7 @@
-use Prim.Native.Nat.{◌-◌, ◌≤◌}
 use mathlib.Core.Path.{◌≡◌}
 use native.Mathlib.Omega.{arith}
-use lib.ListN.{length}
 use Rattle.type_hierarchy.specs.Sets.{step_of}
-use Rattle.type_hierarchy.proofs.Closing.{Reached, reached_start, reached_more, reached_all}
+use Rattle.type_hierarchy.proofs.Closing.{reached_start, reached_more, reached_all}
 use borrow.Author.Rules.{rules}
 use Rattle.rules_required_cycle.proofs.cycles.close_rows.Goals as goal
 

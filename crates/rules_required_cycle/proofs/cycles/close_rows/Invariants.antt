@@ -1,10 +1,8 @@
 use Prim.Native.Nat.{◌-◌, ◌≤◌}
 use mathlib.Core.Path.{◌≡◌}
-use native.Mathlib.Omega.{arith}
 use lib.ListN.{length}
 use Rattle.type_hierarchy.specs.Sets.{step_of}
-use Rattle.type_hierarchy.proofs.Closing.{Reached, reached_start, reached_more, reached_all}
-use borrow.Author.Rules.{rules}
+use Rattle.type_hierarchy.proofs.Closing.{Reached}
 use Rattle.rules_required_cycle.proofs.cycles.close_rows.Given as goal
 
 abbrev pub invariant-loop-c : goal.invariant-loop-c

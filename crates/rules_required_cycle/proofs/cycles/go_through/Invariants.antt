@@ -1,11 +1,8 @@
 use Prim.Native.Nat.{◌-◌, ◌≤◌, ◌<◌}
 use mathlib.Core.Path.{◌≡◌}
-use native.Mathlib.Omega.{arith}
-use lib.ListN.{length, length-set}
+use lib.ListN.{length}
 use Rattle.type_hierarchy.specs.Sets.{step_of}
-use Rattle.type_hierarchy.proofs.Closing.{Going, going_start, going_through}
-use Rattle.rules_required_cycle.proofs.Closing.{row_more}
-use borrow.Author.Rules.{rules}
+use Rattle.type_hierarchy.proofs.Closing.{Going}
 use Rattle.rules_required_cycle.proofs.cycles.go_through.Given as goal
 
 abbrev pub invariant-loop-a : goal.invariant-loop-a

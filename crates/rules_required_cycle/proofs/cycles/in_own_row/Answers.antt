@@ -1,8 +1,6 @@
-use Prim.Native.Nat.{◌-◌, ◌≤◌}
 use mathlib.Core.Path.{◌≡◌}
 use native.Mathlib.Omega.{arith}
-use lib.ListN.{length}
-use Rattle.type_hierarchy.specs.Sets.{set_of, step_of}
+use Rattle.type_hierarchy.specs.Sets.{step_of}
 use Rattle.type_hierarchy.proofs.SetLaws.{set-start, set_next}
 use borrow.Author.Rules.{rules}
 use Rattle.rules_required_cycle.proofs.cycles.in_own_row.Goals as goal
@@ -12,11 +10,11 @@ loop-a-init c = (search rules, search rules, search rules, set-start (λ b. step
 
 pub loop-a-preserved : goal.loop-a-preserved
 loop-a-preserved c = (
-      search rules,
-      search rules,
-      search rules,
-      set_next (λ b. step_of c.args.rows.now b b) c.loop-a.a c.in_set-found.result c.loop-a.set c.one_if.result (omega arith) c.loop-a.invariant.3 c.in_set-found.ensures c.one_if.ensures,
-    )
+  search rules,
+  search rules,
+  search rules,
+  set_next (λ b. step_of c.args.rows.now b b) c.loop-a.a c.in_set-found.result c.loop-a.set c.one_if.result (omega arith) c.loop-a.invariant.3 c.in_set-found.ensures c.one_if.ensures,
+)
 
 pub returns : goal.returns
 returns c = let e : c.loop-a.a ≡ c.args.n = omega arith in

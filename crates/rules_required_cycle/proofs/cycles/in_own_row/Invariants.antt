@@ -1,10 +1,7 @@
 use Prim.Native.Nat.{◌-◌, ◌≤◌}
 use mathlib.Core.Path.{◌≡◌}
-use native.Mathlib.Omega.{arith}
 use lib.ListN.{length}
 use Rattle.type_hierarchy.specs.Sets.{set_of, step_of}
-use Rattle.type_hierarchy.proofs.SetLaws.{set-start, set_next}
-use borrow.Author.Rules.{rules}
 use Rattle.rules_required_cycle.proofs.cycles.in_own_row.Given as goal
 
 abbrev pub invariant-loop-a : goal.invariant-loop-a

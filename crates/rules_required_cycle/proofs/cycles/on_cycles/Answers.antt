@@ -1,6 +1,5 @@
 use mathlib.Core.Path.{◌∙◌}
 use Rattle.type_hierarchy.proofs.SetLaws.{set_same}
-use borrow.Author.Rules.{rules}
 use Rattle.rules_required_cycle.proofs.cycles.on_cycles.Goals as goal
 
 pub returns : goal.returns

@@ -3,7 +3,6 @@ use mathlib.Core.Bool.{true, false, or-false}
 use lib.ListN.{get_or}
 use Rattle.type_hierarchy.specs.Sets.{member}
 use Rattle.type_hierarchy.proofs.SetLaws.{member-or}
-use borrow.Author.Rules.{rules}
 use Rattle.rules_required_cycle.proofs.cycles.with_row.Goals as goal
 
 pub returns-then-in_set : goal.returns-then-in_set

@@ -1,10 +1,5 @@
-use borrow.Author.Rules.{rules}
-use Prim.Native.Nat.{◌-◌}
-use mathlib.Core.List.{[]}
-use Rattle.csdl.specs.Model.{model_of}
-use Rattle.csdl.specs.Properties.{type12}
 use Rattle.rules_required_cycle.proofs.Steps.{asked}
-use Rattle.csdl.proofs.Loops.{First, first-start, first-hit, first_next, first_end}
+use Rattle.csdl.proofs.Loops.{first-start, first-hit, first_next, first_end}
 use native.Mathlib.Omega.{arith}
 use Rattle.rules_required_cycle.proofs.required.first_12.Goals as goal
 

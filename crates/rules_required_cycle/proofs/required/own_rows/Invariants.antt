@@ -1,12 +1,9 @@
 use Prim.Native.Nat.{◌-◌, ◌≤◌}
 use mathlib.Core.Path.{◌≡◌}
 use mathlib.Core.List.{[]}
-use native.Mathlib.Omega.{arith}
-use lib.ListN.{length, length-set}
+use lib.ListN.{length}
 use Rattle.csdl.specs.Model.{model_of}
 use Rattle.rules_required_cycle.specs.Steps.{Owned}
-use Rattle.rules_required_cycle.proofs.Steps.{owned_start, owned_more}
-use borrow.Author.Rules.{rules}
 use Rattle.rules_required_cycle.proofs.required.own_rows.Given as goal
 
 abbrev pub invariant-loop-p : goal.invariant-loop-p

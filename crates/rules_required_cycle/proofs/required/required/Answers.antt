@@ -1,6 +1,5 @@
 use Rattle.csdl.specs.Model.{model_of}
 use Rattle.csdl.specs.Properties as rules
-use borrow.Author.Rules.{rules}
 use Rattle.rules_required_cycle.proofs.required.required.Goals as goal
 
 pub returns : goal.returns

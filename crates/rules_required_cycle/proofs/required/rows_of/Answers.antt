@@ -1,10 +1,6 @@
-use Prim.Native.Nat.{◌-◌, ◌≤◌}
 use mathlib.Core.Path.{◌≡◌, ◌∙◌}
-use mathlib.Core.Bool.{false, ◌&&◌}
+use mathlib.Core.Bool.{false}
 use native.Mathlib.Omega.{arith}
-use lib.ListN.{length}
-use Rattle.csdl.specs.Search.{any_from}
-use Rattle.type_hierarchy.specs.Sets.{member, Members, step_of}
 use Rattle.type_hierarchy.proofs.SetLaws.{member-none}
 use Rattle.rules_required_cycle.proofs.Gather.{gather_start, gather_next}
 use borrow.Author.Rules.{rules}

@@ -1,13 +1,9 @@
 use Prim.Native.Nat.{◌-◌, ◌≤◌}
-use mathlib.Core.Path.{◌≡◌, ◌∙◌}
-use mathlib.Core.Bool.{false, ◌&&◌}
-use native.Mathlib.Omega.{arith}
+use mathlib.Core.Path.{◌≡◌}
+use mathlib.Core.Bool.{◌&&◌}
 use lib.ListN.{length}
 use Rattle.csdl.specs.Search.{any_from}
 use Rattle.type_hierarchy.specs.Sets.{member, Members, step_of}
-use Rattle.type_hierarchy.proofs.SetLaws.{member-none}
-use Rattle.rules_required_cycle.proofs.Gather.{gather_start, gather_next}
-use borrow.Author.Rules.{rules}
 use Rattle.rules_required_cycle.proofs.required.rows_of.Given as goal
 
 abbrev pub invariant-loop-a : goal.invariant-loop-a

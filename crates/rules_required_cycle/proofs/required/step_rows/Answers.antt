@@ -1,9 +1,9 @@
-use Prim.Native.Nat.{ℕ, ◌-◌, ◌*◌, ◌≤◌, ◌<◌}
+use Prim.Native.Nat.{◌*◌}
 use mathlib.Core.Path.{◌≡◌, ◌∙◌, ap}
 use mathlib.Core.List.{[]}
 use native.Mathlib.Omega.{arith}
 use borrow.Author.Count.{below_more}
-use lib.ListN.{length, get_or, set, length-set}
+use lib.ListN.{get_or, set, length-set}
 use lib.Seq.{get_or-set_same, get_or-set_other}
 use Rattle.packed.proofs.Laws.{field_lt}
 use Rattle.csdl.specs.Model.{model_of}
@@ -22,17 +22,16 @@ with_ancestors-requires c = (c.requires.0, c.requires.2)
 
 pub loop-t-preserved : goal.loop-t-preserved
 unfolding model_of ancestor_or_self ancestor
-loop-t-preserved c = let m = model_of [] c.args.types.now c.args.properties.now [] [] [] [] [] [] in
-    (
-      search rules,
-      search rules,
-      search rules,
-      simp length-set (search rules),
-      below_more (λ w. Members 64 (get_or (set c.loop-t.rows c.loop-t.t c.rows_of.result) w 0) (λ u. required_step m w u)) c.loop-t.t
-          (λ w i u h. ap (λ s. member s u) (get_or-set_other c.loop-t.rows c.loop-t.t w c.rows_of.result 0 (λ q. let z : w ≡ c.loop-t.t = q in omega arith)) ∙ c.loop-t.invariant.4 w i u h)
-          (λ u h. ap (λ s. member s u) (get_or-set_same c.loop-t.rows c.loop-t.t c.rows_of.result 0 (omega arith)) ∙ c.rows_of.ensures u h
-          ∙ all_steps m c.own_rows-own.result c.with_ancestors.result c.loop-t.t u h (λ p. field_lt c.args.properties.now (56 * p) 6) c.own_rows-own.ensures.1 c.with_ancestors.ensures),
-    )
+loop-t-preserved c = let m = model_of [] c.args.types.now c.args.properties.now [] [] [] [] [] [] in (
+  search rules,
+  search rules,
+  search rules,
+  simp length-set (search rules),
+  below_more (λ w. Members 64 (get_or (set c.loop-t.rows c.loop-t.t c.rows_of.result) w 0) (λ u. required_step m w u)) c.loop-t.t
+      (λ w i u h. ap (λ s. member s u) (get_or-set_other c.loop-t.rows c.loop-t.t w c.rows_of.result 0 (λ q. let z : w ≡ c.loop-t.t = q in omega arith)) ∙ c.loop-t.invariant.4 w i u h)
+      (λ u h. ap (λ s. member s u) (get_or-set_same c.loop-t.rows c.loop-t.t c.rows_of.result 0 (omega arith)) ∙ c.rows_of.ensures u h
+      ∙ all_steps m c.own_rows-own.result c.with_ancestors.result c.loop-t.t u h (λ p. field_lt c.args.properties.now (56 * p) 6) c.own_rows-own.ensures.1 c.with_ancestors.ensures),
+)
 
 pub returns : goal.returns
 returns c = (c.loop-t.invariant.3, λ t i. c.loop-t.invariant.4 t (omega (arith, i, c.type_count-n.ensures.0)))

@@ -1,17 +1,10 @@
-use Prim.Native.Nat.{ℕ, ◌-◌, ◌*◌, ◌≤◌, ◌<◌}
-use mathlib.Core.Path.{◌≡◌, ◌∙◌, ap}
+use Prim.Native.Nat.{ℕ, ◌-◌, ◌≤◌, ◌<◌}
+use mathlib.Core.Path.{◌≡◌}
 use mathlib.Core.List.{[]}
-use native.Mathlib.Omega.{arith}
-use borrow.Author.Count.{below_more}
-use lib.ListN.{length, get_or, set, length-set}
-use lib.Seq.{get_or-set_same, get_or-set_other}
-use Rattle.packed.proofs.Laws.{field_lt}
+use lib.ListN.{length, get_or}
 use Rattle.csdl.specs.Model.{model_of}
-use Rattle.csdl.specs.Find.{ancestor, ancestor_or_self}
 use Rattle.csdl.specs.Properties.{required_step}
-use Rattle.type_hierarchy.specs.Sets.{member, Members}
-use Rattle.rules_required_cycle.proofs.Steps.{all_steps}
-use borrow.Author.Rules.{rules}
+use Rattle.type_hierarchy.specs.Sets.{Members}
 use Rattle.rules_required_cycle.proofs.required.step_rows.Given as goal
 
 abbrev pub invariant-loop-t : goal.invariant-loop-t

@@ -3,7 +3,6 @@ use mathlib.Core.List.{[]}
 use native.Mathlib.Omega.{arith}
 use Rattle.csdl.specs.Model.{model_of}
 use Rattle.rules_required_cycle.proofs.Steps.{cyclic_rows}
-use borrow.Author.Rules.{rules}
 use Rattle.rules_required_cycle.proofs.required.types_on_cycles.Goals as goal
 
 pub returns : goal.returns

@@ -4,7 +4,6 @@ use mathlib.Core.Bool.{true, false, or-false}
 use Rattle.csdl.specs.Model.{model_of}
 use Rattle.csdl.specs.Properties as rules
 use Rattle.type_hierarchy.specs.Sets.{member}
-use borrow.Author.Rules.{rules}
 use Rattle.rules_required_cycle.proofs.required.with_step.Goals as goal
 
 pub returns-then-required : goal.returns-then-required

@@ -1,14 +1,10 @@
 use Prim.Native.Nat.{◌-◌, ◌≤◌}
 use mathlib.Core.Path.{◌≡◌}
 use mathlib.Core.List.{[]}
-use native.Mathlib.Omega.{arith}
-use borrow.Author.Rules.{rules}
 use lib.ListN.{length}
 use Rattle.csdl.specs.Model.{model_of, in_run}
-use Rattle.csdl.specs.Path.{path_of, holders, kind_paths_with}
-use Rattle.csdl.proofs.Settle.{count-le}
-use Rattle.rules_segments.specs.Cover.{inside}
-use Rattle.rules_segments.proofs.Covering.{Tallied, tallied_start, tallied_more, tallied_small, added}
+use Rattle.csdl.specs.Path.{path_of, holders}
+use Rattle.rules_segments.proofs.Covering.{Tallied}
 use Rattle.rules_segments.proofs.cover.cover_kind.Given as goal
 
 abbrev pub invariant-loop-r : goal.invariant-loop-r

@@ -1,9 +1,7 @@
-use Prim.Native.Nat.{min, ◌+◌, ◌-◌, ◌≤◌}
-use mathlib.Core.Path.{◌≡◌}
 use native.Mathlib.Omega.{arith}
 use borrow.Author.Rules.{rules}
 use lib.ListN.{length}
-use Rattle.rules_segments.proofs.Covering.{Counted, counted_start, counted-small, counted-more, counted_end}
+use Rattle.rules_segments.proofs.Covering.{counted_start, counted-small, counted-more, counted_end}
 use Rattle.rules_segments.proofs.cover.cover_run.Goals as goal
 
 pub loop-g-init : goal.loop-g-init

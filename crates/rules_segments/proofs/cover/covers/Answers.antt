@@ -1,13 +1,11 @@
-use Prim.Native.Nat.{◌-◌, ◌≤◌}
 use mathlib.Core.Path.{◌≡◌, ◌∙◌}
 use mathlib.Core.List.{[]}
 use native.Mathlib.Omega.{arith}
 use borrow.Author.Rules.{rules}
-use lib.ListN.{length}
 use Rattle.csdl.specs.Model.{model_of}
 use Rattle.csdl.specs.Path.{kind_paths_with}
 use Rattle.path_kinds.specs.Kinds.{kind_at}
-use Rattle.rules_segments.proofs.Covering.{Summed, summed_start, summed_more, all_kinds}
+use Rattle.rules_segments.proofs.Covering.{summed_start, summed_more, all_kinds}
 use Rattle.rules_segments.proofs.cover.covers.Goals as goal
 
 pub loop-n-init : goal.loop-n-init

@@ -1,13 +1,11 @@
-use Prim.Native.Nat.{◌-◌, ◌≤◌}
-use mathlib.Core.Path.{◌≡◌, sym, refl}
+use mathlib.Core.Path.{sym, refl}
 use mathlib.Core.Bool.{true, false}
 use mathlib.Core.List.{[]}
 use native.Mathlib.Omega.{arith}
 use borrow.Author.Rules.{rules}
-use Rattle.csdl.specs.Tables.{segment_count}
 use Rattle.csdl.specs.Model.{model_of}
 use Rattle.csdl.specs.Paths.{segment13}
-use Rattle.csdl.proofs.Loops.{First, first-start, first-hit, first_next, first_end}
+use Rattle.csdl.proofs.Loops.{first-start, first-hit, first_next, first_end}
 use Rattle.rules_segments.proofs.Covering.{covered_once, not_covered_once}
 use Rattle.rules_segments.proofs.cover.first_13.Goals as goal
 

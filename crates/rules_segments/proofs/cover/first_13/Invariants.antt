@@ -1,14 +1,10 @@
 use Prim.Native.Nat.{◌-◌, ◌≤◌}
-use mathlib.Core.Path.{◌≡◌, sym, refl}
-use mathlib.Core.Bool.{true, false}
+use mathlib.Core.Path.{◌≡◌}
 use mathlib.Core.List.{[]}
-use native.Mathlib.Omega.{arith}
-use borrow.Author.Rules.{rules}
 use Rattle.csdl.specs.Tables.{segment_count}
 use Rattle.csdl.specs.Model.{model_of}
 use Rattle.csdl.specs.Paths.{segment13}
-use Rattle.csdl.proofs.Loops.{First, first-start, first-hit, first_next, first_end}
-use Rattle.rules_segments.proofs.Covering.{covered_once, not_covered_once}
+use Rattle.csdl.proofs.Loops.{First}
 use Rattle.rules_segments.proofs.cover.first_13.Given as goal
 
 abbrev pub invariant-loop-g : goal.invariant-loop-g

@@ -1,15 +1,11 @@
-use Prim.Native.Nat.{ℕ, ◌-◌, ◌≤◌}
-use mathlib.Core.Path.{◌≡◌, refl, ap, ◌∙◌}
-use native.Mathlib.Omega.{arith}
+use Prim.Native.Nat.{◌-◌, ◌≤◌}
+use mathlib.Core.Path.{◌≡◌}
 use lib.ListN.{length}
 use Rattle.csdl.specs.Image.{model_in}
-use Rattle.csdl.specs.Search.{first_from}
-use Rattle.csdl.specs.Paths.{unresolved_of, segment14}
+use Rattle.csdl.specs.Paths.{unresolved_of}
 use Rattle.path_kinds.specs.Kinds.{kind_at}
 use Rattle.rules_segments.specs.Kept.{Progress, PastKept}
-use Rattle.rules_segments.proofs.Keeping.{progress_start, progress_more, all_coded}
-use Rattle.rules_segments.proofs.Least.{Least, least_start, least_more, lowest_14, lowest_found, lowest_none}
-use borrow.Author.Rules.{rules}
+use Rattle.rules_segments.proofs.Least.{Least}
 use Rattle.rules_segments.proofs.unresolved.first_14.Given as goal
 
 abbrev pub invariant-loop-k : goal.invariant-loop-k

@@ -1,8 +1,6 @@
-use Prim.Native.Nat.{◌-◌, ◌≤◌}
 use mathlib.Core.Path.{◌≡◌}
 use native.Mathlib.Omega.{arith}
-use lib.ListN.{length, length-set}
-use Rattle.rules_segments.specs.Kept.{RunKept}
+use lib.ListN.{length-set}
 use Rattle.rules_segments.proofs.Keeping.{run_start, run_more}
 use borrow.Author.Rules.{rules}
 use Rattle.rules_segments.proofs.unresolved.keep_run.Goals as goal

@@ -1,10 +1,7 @@
 use Prim.Native.Nat.{◌-◌, ◌≤◌}
 use mathlib.Core.Path.{◌≡◌}
-use native.Mathlib.Omega.{arith}
-use lib.ListN.{length, length-set}
+use lib.ListN.{length}
 use Rattle.rules_segments.specs.Kept.{RunKept}
-use Rattle.rules_segments.proofs.Keeping.{run_start, run_more}
-use borrow.Author.Rules.{rules}
 use Rattle.rules_segments.proofs.unresolved.keep_run.Given as goal
 
 abbrev pub invariant-loop-k : goal.invariant-loop-k

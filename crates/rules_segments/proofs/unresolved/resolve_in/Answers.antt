@@ -1,5 +1,4 @@
 use Rattle.rules_segments.proofs.InImage.{index_in, ancestors_in, resolved-is}
-use borrow.Author.Rules.{rules}
 use Rattle.rules_segments.proofs.unresolved.resolve_in.Goals as goal
 
 pub resolve_path-requires : goal.resolve_path-requires

@@ -1,6 +1,5 @@
 use mathlib.Core.Path.{◌∙◌}
 use Rattle.rules_segments.proofs.InImage.{segments-is}
-use borrow.Author.Rules.{rules}
 use Rattle.rules_segments.proofs.unresolved.segments_in.Goals as goal
 
 pub returns : goal.returns

@@ -1,5 +1,4 @@
 use borrow.Author.Tests.{le-leb, lt-leb}
-use borrow.Author.Rules.{rules}
 use Rattle.rules_segments.proofs.unresolved.unresolved_at.Goals as goal
 
 pub returns-then-count-taken : goal.returns-then-count-taken

@@ -10,9 +10,9 @@ use Rattle.rules_segments.proofs.unresolved.unresolved_in.Goals as goal
 
 pub returns-then-count-eq0 : goal.returns-then-count-eq0
 returns-then-count-eq0 c = let empty : (path_of (model_in c.args.image.now) c.args.holder.kind c.args.holder.r).count ≡ 0 = sym c.path_in-path.ensures.1 ∙ c.if-count-eq0.true in record {
-      lowest = empty_path (model_in c.args.image.now) c.args.holder.kind c.args.holder.r c.args.bound empty;
-      path_step = nothing-kept (model_in c.args.image.now) c.args.holder.kind c.args.holder.r c.args.codes.now empty;
-    }
+  lowest = empty_path (model_in c.args.image.now) c.args.holder.kind c.args.holder.r c.args.bound empty;
+  path_step = nothing-kept (model_in c.args.image.now) c.args.holder.kind c.args.holder.r c.args.codes.now empty;
+}
 
 pub keep_run-requires : goal.keep_run-requires
 keep_run-requires c = let room = run_room (model_in c.args.image.now) c.args.holder.kind c.args.holder.r _ _ _ c.resolve_in-t.result.taken c.resolve_in-t.result.end c.resolve_in-t.result.codes c.start_in-start.ensures.0 c.path_in-path.ensures.0 c.path_in-path.ensures.1 c.resolve_in-t.ensures c.requires.2 c.requires.3 in
@@ -20,6 +20,6 @@ keep_run-requires c = let room = run_room (model_in c.args.image.now) c.args.hol
 
 pub returns : goal.returns
 returns c = record {
-      lowest = rw c.unresolved_at.ensures (path_lowest (model_in c.args.image.now) c.args.holder.kind c.args.holder.r _ _ _ c.resolve_in-t.result.taken c.resolve_in-t.result.end c.resolve_in-t.result.codes c.start_in-start.ensures.0 c.path_in-path.ensures.0 c.path_in-path.ensures.1 c.resolve_in-t.ensures c.args.bound);
-      path_step = run_step (model_in c.args.image.now) c.args.holder.kind c.args.holder.r _ _ _ c.resolve_in-t.result.taken c.resolve_in-t.result.end c.resolve_in-t.result.codes c.start_in-start.ensures.0 c.path_in-path.ensures.0 c.path_in-path.ensures.1 c.resolve_in-t.ensures c.args.codes.now _ c.keep_run.ensures;
-    }
+  lowest = rw c.unresolved_at.ensures (path_lowest (model_in c.args.image.now) c.args.holder.kind c.args.holder.r _ _ _ c.resolve_in-t.result.taken c.resolve_in-t.result.end c.resolve_in-t.result.codes c.start_in-start.ensures.0 c.path_in-path.ensures.0 c.path_in-path.ensures.1 c.resolve_in-t.ensures c.args.bound);
+  path_step = run_step (model_in c.args.image.now) c.args.holder.kind c.args.holder.r _ _ _ c.resolve_in-t.result.taken c.resolve_in-t.result.end c.resolve_in-t.result.codes c.start_in-start.ensures.0 c.path_in-path.ensures.0 c.path_in-path.ensures.1 c.resolve_in-t.ensures c.args.codes.now _ c.keep_run.ensures;
+}

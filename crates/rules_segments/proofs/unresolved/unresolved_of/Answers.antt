@@ -1,13 +1,11 @@
-use Prim.Native.Nat.{◌-◌, ◌≤◌, ◌<◌}
+use Prim.Native.Nat.{◌<◌}
 use mathlib.Core.Path.{◌≡◌, refl, ◌∙◌}
 use native.Mathlib.Omega.{arith}
-use lib.ListN.{length}
 use Rattle.csdl.specs.Image.{model_in}
 use Rattle.csdl.specs.Path.{holders}
 use Rattle.csdl.specs.Paths.{unresolved_in}
-use Rattle.rules_segments.specs.Kept.{KindStep, PastKept}
 use Rattle.rules_segments.proofs.Keeping.{kind-start, kind-more, path_past}
-use Rattle.rules_segments.proofs.Least.{Least, least_start, least_more, lowest_kind}
+use Rattle.rules_segments.proofs.Least.{least_start, least_more, lowest_kind}
 use borrow.Author.Rules.{rules}
 use Rattle.rules_segments.proofs.unresolved.unresolved_of.Goals as goal
 
@@ -24,7 +22,7 @@ loop-r-preserved c = let there : c.loop-r.r < holders (model_in c.args.image.now
 
 pub returns : goal.returns
 returns c = let e : c.loop-r.r ≡ c.holders_in-n.result = omega arith in record {
-      lowest = lowest_kind (model_in c.args.image.now) c.args.kind c.args.bound c.loop-r.r c.loop-r.low (e ∙ c.loop-r.invariant.2) c.loop-r.invariant.3;
-      kind_step = rw (e, c.loop-r.invariant.2) at c.loop-r.invariant.4;
-      past_kept = c.loop-r.invariant.5;
-    }
+  lowest = lowest_kind (model_in c.args.image.now) c.args.kind c.args.bound c.loop-r.r c.loop-r.low (e ∙ c.loop-r.invariant.2) c.loop-r.invariant.3;
+  kind_step = rw (e, c.loop-r.invariant.2) at c.loop-r.invariant.4;
+  past_kept = c.loop-r.invariant.5;
+}

@@ -1,14 +1,11 @@
-use Prim.Native.Nat.{◌-◌, ◌≤◌, ◌<◌}
-use mathlib.Core.Path.{◌≡◌, refl, ◌∙◌}
-use native.Mathlib.Omega.{arith}
+use Prim.Native.Nat.{◌-◌, ◌≤◌}
+use mathlib.Core.Path.{◌≡◌}
 use lib.ListN.{length}
 use Rattle.csdl.specs.Image.{model_in}
 use Rattle.csdl.specs.Path.{holders}
 use Rattle.csdl.specs.Paths.{unresolved_in}
 use Rattle.rules_segments.specs.Kept.{KindStep, PastKept}
-use Rattle.rules_segments.proofs.Keeping.{kind-start, kind-more, path_past}
-use Rattle.rules_segments.proofs.Least.{Least, least_start, least_more, lowest_kind}
-use borrow.Author.Rules.{rules}
+use Rattle.rules_segments.proofs.Least.{Least}
 use Rattle.rules_segments.proofs.unresolved.unresolved_of.Given as goal
 
 abbrev pub invariant-loop-r : goal.invariant-loop-r

@@ -1,7 +1,6 @@
 use Rattle.csdl.specs.Model.{model_of}
 use Rattle.csdl.specs.Find.{of_kind}
 use Rattle.csdl.specs.Properties as rules
-use borrow.Author.Rules.{rules}
 use Rattle.rules_types.proofs.properties.is_stream.Goals as goal
 
 pub returns : goal.returns

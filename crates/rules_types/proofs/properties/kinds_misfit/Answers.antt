@@ -1,6 +1,5 @@
 use Rattle.csdl.specs.Model.{model_of}
 use Rattle.csdl.specs.Find.{of_kind, structured}
-use borrow.Author.Rules.{rules}
 use Rattle.rules_types.proofs.properties.kinds_misfit.Goals as goal
 
 pub returns : goal.returns

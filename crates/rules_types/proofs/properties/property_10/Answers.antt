@@ -2,7 +2,6 @@ use mathlib.Core.List.{[]}
 use Rattle.csdl.specs.Model.{model_of}
 use Rattle.csdl.specs.Properties as rules
 use Rattle.rules_types.proofs.Bools.{or_fours}
-use borrow.Author.Rules.{rules}
 use Rattle.rules_types.proofs.properties.property_10.Goals as goal
 
 pub returns : goal.returns

@@ -1,6 +1,5 @@
 use Rattle.csdl.specs.Model.{model_of}
 use Rattle.rules_types.proofs.Bases.{base_8d, base_8e, base_8f}
-use borrow.Author.Rules.{rules}
 use Rattle.rules_types.proofs.types.base_misfits.Goals as goal
 
 pub returns : goal.returns

@@ -1,10 +1,8 @@
-use borrow.Author.Rules.{rules}
 use Prim.Native.Nat.{◌-◌}
 use mathlib.Core.List.{[]}
 use Rattle.csdl.specs.Model.{model_of}
 use Rattle.csdl.specs.Types.{type8}
-use Rattle.csdl.proofs.Loops.{First, first-start, first-hit, first_next, first_end}
-use native.Mathlib.Omega.{arith}
+use Rattle.csdl.proofs.Loops.{First}
 use Rattle.rules_types.proofs.types.first_8.Given as goal
 
 abbrev pub invariant-loop-t : goal.invariant-loop-t

@@ -1,6 +1,5 @@
 use Rattle.csdl.specs.Model.{model_of}
 use Rattle.rules_types.proofs.Bases.{base_8a}
-use borrow.Author.Rules.{rules}
 use Rattle.rules_types.proofs.types.kind_misfits.Goals as goal
 
 pub returns : goal.returns

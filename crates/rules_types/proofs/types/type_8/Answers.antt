@@ -2,7 +2,6 @@ use mathlib.Core.List.{[]}
 use Rattle.csdl.specs.Model.{model_of}
 use Rattle.csdl.specs.Types.{type8a, type8b, type8c, type8d, type8e, type8f, type8g, type8h, type8i, type8}
 use Rattle.rules_types.proofs.Bools.{or_threes}
-use borrow.Author.Rules.{rules}
 use Rattle.rules_types.proofs.types.type_8.Goals as goal
 
 pub returns : goal.returns

@@ -1,5 +1,4 @@
 use Rattle.csdl.specs.Types.{type9}
-use borrow.Author.Rules.{rules}
 use Rattle.rules_types.proofs.types.type_9.Goals as goal
 
 pub returns : goal.returns
