@@ -1,5 +1,4 @@
 use Rattle.model_rules.proofs.Order.{formed_by}
-use borrow.Author.Rules.{rules}
 use Rattle.model_rules.proofs.formed.Goals as goal
 
 pub returns : goal.returns

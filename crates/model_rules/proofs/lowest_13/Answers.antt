@@ -4,7 +4,6 @@ use Rattle.model_rules.proofs.Finding.{few_found}
 use Rattle.model_image.proofs.Laid.{opened}
 use Rattle.model_rules.proofs.Found.{few-places}
 use Rattle.model_rules.proofs.Along.{lowest_13}
-use borrow.Author.Rules.{rules}
 use Rattle.model_rules.proofs.lowest_13.Goals as goal
 
 pub place_found-requires : goal.place_found-requires

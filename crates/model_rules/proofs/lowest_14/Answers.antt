@@ -4,7 +4,6 @@ use Rattle.model_rules.proofs.Finding.{few_found}
 use Rattle.model_image.proofs.Laid.{opened}
 use Rattle.model_rules.proofs.Found.{few-places}
 use Rattle.model_rules.proofs.Along.{lowest_14, few-segments, can_resolve}
-use borrow.Author.Rules.{rules}
 use Rattle.model_rules.proofs.lowest_14.Goals as goal
 
 pub first_14-requires : goal.first_14-requires
@@ -17,7 +16,7 @@ place_found-requires c = let l = opened c.requires.0 in
 
 pub returns : goal.returns
 returns c = record {
-      value = lowest_14 (opened c.requires.0) c.first_14.ensures.value c.place_found.ensures;
-      coded = c.first_14.ensures.coded;
-      codes_len_unchanged = c.first_14.ensures.codes_len_unchanged;
-    }
+  value = lowest_14 (opened c.requires.0) c.first_14.ensures.value c.place_found.ensures;
+  coded = c.first_14.ensures.coded;
+  codes_len_unchanged = c.first_14.ensures.codes_len_unchanged;
+}

@@ -8,7 +8,6 @@ use Rattle.model_rules.specs.Stages.{lowest_place}
 use Rattle.model_rules.proofs.Finding.{few_found}
 use Rattle.model_image.proofs.Laid.{opened}
 use Rattle.model_rules.proofs.Found.{lowest_in, few-places}
-use borrow.Author.Rules.{rules}
 use Rattle.model_rules.proofs.lowest_17.Goals as goal
 
 pub first_17-requires : goal.first_17-requires

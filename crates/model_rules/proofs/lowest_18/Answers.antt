@@ -12,7 +12,6 @@ use Rattle.model_rules.proofs.Finding.{few_found}
 use Rattle.model_image.proofs.Laid.{opened}
 use Rattle.model_rules.proofs.Found.{lowest_in, few-places}
 use Rattle.model_rules.proofs.Tables.{tables_lowest, properties-before}
-use borrow.Author.Rules.{rules}
 use Rattle.model_rules.proofs.lowest_18.Goals as goal
 
 pub first_property_18-requires : goal.first_property_18-requires

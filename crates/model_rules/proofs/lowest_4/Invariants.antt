@@ -1,13 +1,9 @@
 use Prim.Native.Nat.{◌-◌}
 use mathlib.Core.Path.{◌≡◌}
-use native.Mathlib.Omega.{arith}
 use Rattle.csdl.specs.Image.{model_in}
 use Rattle.csdl.specs.Verdict.{broken_at}
 use Rattle.csdl.specs.Form.{rule4}
-use Rattle.csdl.proofs.Loops.{First, first-start, first-hit, first_next, first_end}
-use Rattle.model_image.proofs.Laid.{opened}
-use Rattle.model_rules.proofs.Found.{asked, of_all}
-use borrow.Author.Rules.{rules}
+use Rattle.csdl.proofs.Loops.{First}
 use Rattle.model_rules.proofs.lowest_4.Given as goal
 
 abbrev pub invariant-loop-place : goal.invariant-loop-place

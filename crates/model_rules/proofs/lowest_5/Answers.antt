@@ -1,13 +1,8 @@
-use Prim.Native.Nat.{◌-◌}
-use mathlib.Core.Path.{◌≡◌, sym}
+use mathlib.Core.Path.{sym}
 use native.Mathlib.Omega.{arith}
-use Rattle.csdl.specs.Image.{model_in}
-use Rattle.csdl.specs.Verdict.{broken_at}
 use Rattle.csdl.specs.Form.{rule5}
-use Rattle.csdl.proofs.Loops.{First, first-start, first-hit, first_next, first_end}
-use Rattle.model_image.specs.Laid.{names_in}
+use Rattle.csdl.proofs.Loops.{first-start, first-hit, first_next, first_end}
 use Rattle.model_image.proofs.Laid.{opened}
-use Rattle.rules_names.specs.Identifiers.{Limits}
 use Rattle.model_rules.proofs.Found.{asked, of_all}
 use borrow.Author.Rules.{rules}
 use Rattle.model_rules.proofs.lowest_5.Goals as goal

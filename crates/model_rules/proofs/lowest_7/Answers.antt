@@ -10,7 +10,6 @@ use Rattle.model_rules.proofs.Finding.{few_found}
 use Rattle.model_image.proofs.Laid.{opened}
 use Rattle.model_rules.proofs.Found.{lowest_in, few-places}
 use Rattle.model_rules.proofs.Tables.{tables_lowest, types-before}
-use borrow.Author.Rules.{rules}
 use Rattle.model_rules.proofs.lowest_7.Goals as goal
 
 pub place_found-requires : goal.place_found-requires

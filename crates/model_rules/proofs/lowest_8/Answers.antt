@@ -7,7 +7,6 @@ use Rattle.model_rules.specs.Stages.{lowest_place}
 use Rattle.model_rules.proofs.Finding.{few_found}
 use Rattle.model_image.proofs.Laid.{opened}
 use Rattle.model_rules.proofs.Found.{lowest_in, few-places}
-use borrow.Author.Rules.{rules}
 use Rattle.model_rules.proofs.lowest_8.Goals as goal
 
 pub place_found-requires : goal.place_found-requires
