@@ -2,7 +2,6 @@ use mathlib.Core.Path.{sym, ◌∙◌}
 use Rattle.csdl.specs.Conforms.{instance_answer, instance_then}
 use Rattle.csdl.specs.Verdict.{instance_means}
 use Rattle.model_check.proofs.Then.{then_on, model_passes, model_stops}
-use borrow.Author.Rules.{rules}
 use Rattle.instance_check.proofs.check_instance.Goals as goal
 
 pub check_20_to_26-requires : goal.check_20_to_26-requires

@@ -1,6 +1,5 @@
 use mathlib.Core.Path.{sym, ◌∙◌}
 use Rattle.csdl.specs.Verdict.{verdict, instance_means}
-use borrow.Author.Rules.{rules}
 use Rattle.model_image.proofs.Parts.{layout}
 use Rattle.instance_image.proofs.Sizes.{sized}
 use Rattle.instance_check.proofs.images.check_20_to_26.Goals as goal

@@ -1,15 +1,9 @@
-use borrow.Author.Rules.{rules}
-use Prim.Native.Nat.{◌-◌, ◌≤◌}
 use mathlib.Core.Path.{sym}
-use mathlib.Core.List.{[]}
 use native.Mathlib.Omega.{arith}
-use Rattle.csdl.specs.Image.{model_in}
-use Rattle.csdl.specs.Instance.{instance_in}
 use Rattle.csdl.specs.Verdict.{instance_means}
-use Rattle.csdl.specs.Verdict.Answer.{accepted}
 use Rattle.instance_runs.proofs.Fills.{tabulates}
-use Rattle.instance_check.specs.Stages.{rule_no, ItemSlots}
-use Rattle.instance_check.proofs.Stages.{Clear, clear_start, clear_next, clear_broken, clear_all}
+use Rattle.instance_check.specs.Stages.{rule_no}
+use Rattle.instance_check.proofs.Stages.{clear_start, clear_next, clear_broken, clear_all}
 use Rattle.instance_check.proofs.rules.first_broken.Goals as goal
 
 pub lowest_21-form-requires : goal.lowest_21-form-requires

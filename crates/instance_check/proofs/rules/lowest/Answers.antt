@@ -1,4 +1,3 @@
-use borrow.Author.Rules.{rules}
 use mathlib.Core.Path.{◌≡◌}
 use native.Mathlib.Omega.{arith}
 use Rattle.instance_check.specs.Stages.{rule_no}
@@ -22,5 +21,5 @@ returns-in-25 c = rw c.in-25.is c.lowest_25.ensures
 
 pub returns-in_default : goal.returns-in_default
 unfolding rule_no
-returns-in_default c = let e : c.args.rule ≡ 26 = omega (arith, c.requires.2, c.requires.3, c.in_default.rest) in
+returns-in_default c = let e : c.args.rule ≡ 26 = omega (arith, c.requires.2, c.requires.3) in
     rw e c.lowest_26.ensures

@@ -1,4 +1,3 @@
-use borrow.Author.Rules.{rules}
 use Rattle.instance_check.proofs.Stages.{in_23}
 use Rattle.instance_check.proofs.rules.lowest_23.Goals as goal
 

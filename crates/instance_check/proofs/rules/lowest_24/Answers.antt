@@ -1,5 +1,4 @@
 use mathlib.Core.Path.{ap₂, ◌∙◌}
-use borrow.Author.Rules.{rules}
 use Rattle.csdl.specs.Search.{place_found}
 use Rattle.instance_check.proofs.Stages.{in_24}
 use Rattle.instance_check.proofs.rules.lowest_24.Goals as goal
