@@ -1,12 +1,8 @@
 use borrow.Author.Rules.{rules}
-use Prim.Native.Nat.{ℕ, ◌-◌, ◌≤◌, ◌<◌}
+use Prim.Native.Nat.{ℕ}
 use mathlib.Core.Path.{◌≡◌, sym, ◌∙◌}
 use native.Mathlib.Omega.{arith}
-use lib.ListN.{length}
 use Rattle.csdl.specs.Image.{model_in}
-use Rattle.path_resolution.specs.Coded.{Coded}
-use Rattle.model_rules.specs.Stages.{Clear}
-use Rattle.rules_segments.specs.Indexes.{IndexIn, AncestorsIn}
 use Rattle.model_rules.proofs.Order.{clear_next, judged_broken, judged_clear}
 use Rattle.model_image.proofs.Laid.{opened}
 use Rattle.model_rules.proofs.Along.{segments_last}
@@ -20,9 +16,9 @@ lowest-found-requires c = (c.requires.0, c.loop-stage.invariant.0, omega (arith,
 
 pub returns-then-found-ne0 : goal.returns-then-found-ne0
 returns-then-found-ne0 c = let m = model_in c.args.image.now in record {
-      judged = (judged_broken m _ _ _ c.loop-stage.invariant.0 (omega arith) c.loop-stage.invariant.5 c.lowest-found.ensures.value c.if-found-ne0.true, search rules);
-      by_index = λ s z. let no : ◌≡◌ {A = ℕ} 0 1 = cc in absurd (omega (arith, no));
-    }
+  judged = (judged_broken m _ _ _ c.loop-stage.invariant.0 (omega arith) c.loop-stage.invariant.5 c.lowest-found.ensures.value c.if-found-ne0.true, search rules);
+  by_index = λ s z. let no : ◌≡◌ {A = ℕ} 0 1 = cc in absurd (omega (arith, no));
+}
 
 pub loop-stage-preserved : goal.loop-stage-preserved
 loop-stage-preserved c = let m = model_in c.args.image.now in
@@ -33,6 +29,6 @@ overflow_sub-result-2 c = (segments_last (opened c.requires.0)).0
 
 pub returns : goal.returns
 returns c = let last : c.loop-stage.stage ≡ c.args.to = omega (arith, c.loop-stage.invariant.1, c.loop-stage-test.false) in record {
-      judged = (judged_clear (model_in c.args.image.now) _ _ (segments_last (opened c.requires.0)).1 (rw last at c.loop-stage.invariant.5), c.loop-stage.invariant.3);
-      by_index = λ s z h. c.loop-stage.invariant.6 (omega (arith, h, last));
-    }
+  judged = (judged_clear (model_in c.args.image.now) _ _ (segments_last (opened c.requires.0)).1 (rw last at c.loop-stage.invariant.5), c.loop-stage.invariant.3);
+  by_index = λ s z h. c.loop-stage.invariant.6 (omega (arith, h, last));
+}

@@ -1,15 +1,10 @@
-use borrow.Author.Rules.{rules}
-use Prim.Native.Nat.{ℕ, ◌-◌, ◌≤◌, ◌<◌}
-use mathlib.Core.Path.{◌≡◌, sym, ◌∙◌}
-use native.Mathlib.Omega.{arith}
+use Prim.Native.Nat.{◌-◌, ◌≤◌, ◌<◌}
+use mathlib.Core.Path.{◌≡◌}
 use lib.ListN.{length}
 use Rattle.csdl.specs.Image.{model_in}
 use Rattle.path_resolution.specs.Coded.{Coded}
 use Rattle.model_rules.specs.Stages.{Clear}
 use Rattle.rules_segments.specs.Indexes.{IndexIn, AncestorsIn}
-use Rattle.model_rules.proofs.Order.{clear_next, judged_broken, judged_clear}
-use Rattle.model_image.proofs.Laid.{opened}
-use Rattle.model_rules.proofs.Along.{segments_last}
 use Rattle.model_check.proofs.first_among.Given as goal
 
 abbrev pub invariant-loop-stage : goal.invariant-loop-stage

@@ -1,7 +1,6 @@
 use mathlib.Core.Path.{◌≡◌, ap}
 use native.Mathlib.Omega.{arith}
 use Rattle.csdl.specs.Image.{names_from}
-use borrow.Author.Rules.{rules}
 use Rattle.model_naming.proofs.Names.{names-below}
 use Rattle.model_naming.proofs.name_place.Goals as goal
 

@@ -1,4 +1,3 @@
-use borrow.Author.Rules.{rules}
 use Rattle.walk_items.proofs.next_position.Goals as goal
 
 pub returns : goal.returns

@@ -1,5 +1,4 @@
 use Rattle.walk_step.specs.Seen.{has_name}
-use borrow.Author.Rules.{rules}
 use Rattle.walk_step.proofs.has_name.Goals as goal
 
 pub returns : goal.returns

@@ -1,6 +1,5 @@
 use Rattle.csdl.specs.Instance.{instance_of, instance_in}
 use Rattle.walk_step.specs.Seen.{item_in}
-use borrow.Author.Rules.{rules}
 use Rattle.walk_step.proofs.item_in.Goals as goal
 
 pub returns-then-next : goal.returns-then-next

@@ -1,4 +1,3 @@
-use borrow.Author.Rules.{rules}
 use Rattle.walk_step.proofs.kept_next.Goals as goal
 
 pub returns-then-kept : goal.returns-then-kept

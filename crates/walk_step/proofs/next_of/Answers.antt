@@ -1,8 +1,6 @@
 use mathlib.Core.Path.{sym, ◌∙◌}
-use borrow.Author.Tests.{not-true, not-false}
 use Rattle.instance_image.proofs.Sizes.{sized}
 use Rattle.walk_step.proofs.Moves.{next-none, next-cast, next-slot}
-use borrow.Author.Rules.{rules}
 use Rattle.walk_step.proofs.next_of.Goals as goal
 
 pub returns-then-not-structured : goal.returns-then-not-structured

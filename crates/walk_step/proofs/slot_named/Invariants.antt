@@ -1,9 +1,6 @@
-use native.Mathlib.Omega.{arith}
 use Prim.Native.Nat.{◌+◌, ◌-◌, ◌<◌}
-use mathlib.Core.Path.{◌∙◌}
 use Rattle.walk_step.specs.Seen.{has_name}
-use Rattle.walk_step.proofs.Named.{Seeking, seek_start, seek_hit, seek_next, seek_end, search_is, search_past}
-use borrow.Author.Rules.{rules}
+use Rattle.walk_step.proofs.Named.{Seeking}
 use Rattle.walk_step.proofs.slot_named.Given as goal
 
 abbrev pub invariant-loop-j : goal.invariant-loop-j

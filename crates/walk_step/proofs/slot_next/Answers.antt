@@ -4,7 +4,6 @@ use native.Mathlib.Omega.{arith}
 use borrow.Author.Tests.{eq-eqb, ne_eqb}
 use Rattle.csdl.specs.Instance.{instance_of}
 use Rattle.walk_step.specs.Seen.{slot_next}
-use borrow.Author.Rules.{rules}
 use Rattle.walk_step.proofs.slot_next.Goals as goal
 
 pub returns-then-s-eq0 : goal.returns-then-s-eq0

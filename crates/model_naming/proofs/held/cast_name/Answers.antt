@@ -1,6 +1,5 @@
 use mathlib.Core.Path.{sym, ◌∙◌}
 use Rattle.model_naming.proofs.Names.{start_past, size_past}
-use borrow.Author.Rules.{rules}
 use Rattle.model_naming.proofs.held.cast_name.Goals as goal
 
 pub returns : goal.returns

@@ -1,7 +1,6 @@
 use Rattle.csdl.specs.Model.{model_of}
 use Rattle.csdl.specs.Image.{model_in}
 use Rattle.csdl.specs.Naming.{name_held}
-use borrow.Author.Rules.{rules}
 use Rattle.model_naming.proofs.held.name_held.Goals as goal
 
 pub returns-in-OfSchema : goal.returns-in-OfSchema

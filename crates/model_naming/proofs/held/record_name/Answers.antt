@@ -1,7 +1,6 @@
 use mathlib.Core.Path.{sym, ◌∙◌}
 use Rattle.model_image.proofs.Parts.{layout}
 use Rattle.model_naming.proofs.Names.{named, none_bad, none_past}
-use borrow.Author.Rules.{rules}
 use Rattle.model_naming.proofs.held.record_name.Goals as goal
 
 pub returns-then-bad_image : goal.returns-then-bad_image

@@ -1,6 +1,5 @@
 use Rattle.csdl.specs.Model.{model_of}
 use Rattle.csdl.specs.Naming.{name_held}
-use borrow.Author.Rules.{rules}
 use Rattle.model_naming.proofs.held.segment_held.Goals as goal
 
 pub returns-then-segment_cast : goal.returns-then-segment_cast
