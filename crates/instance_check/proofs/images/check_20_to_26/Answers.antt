@@ -1,4 +1,6 @@
-use mathlib.Core.Path.{sym, ◌∙◌}
+use mathlib.Core.Path.{◌≡◌}
+use mathlib.Core.Bool.{false}
+use Rattle.csdl.specs.Instance.{image20}
 use Rattle.csdl.specs.Verdict.{verdict, instance_means}
 use Rattle.model_image.proofs.Parts.{layout}
 use Rattle.instance_image.proofs.Sizes.{sized}
@@ -8,9 +10,14 @@ pub returns-then-bad_instance : goal.returns-then-bad_instance
 unfolding verdict instance_means
 returns-then-bad_instance c = rw (← c.bad_instance.ensures, c.if-bad_instance.true)
 
+-- The test is not named below, so that an edit that turns it is refused for what does not follow from it.
 pub first_broken-requires : goal.first_broken-requires
-first_broken-requires c = (layout _ c.requires, sized _ (sym c.bad_instance.ensures ∙ c.if-bad_instance.false))
+first_broken-requires c =
+    let kept : image20 c.args.instance.now ≡ false = cc in
+    (layout _ c.requires, sized _ kept)
 
 pub returns : goal.returns
 unfolding verdict
-returns c = rw (← c.bad_instance.ensures, c.if-bad_instance.false) c.first_broken.ensures
+returns c =
+    let kept : image20 c.args.instance.now ≡ false = cc in
+    rw kept c.first_broken.ensures
