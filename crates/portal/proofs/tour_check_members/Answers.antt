@@ -1,7 +1,6 @@
 use mathlib.Core.Path.{ap, ◌∙◌}
 use Rattle.demands.specs.Word.{word}
 use Rattle.demands.proofs.Kept.{members_owed}
-use borrow.Author.Rules.{rules}
 use Rattle.portal.proofs.tour_check_members.Goals as goal
 
 pub returns : goal.returns

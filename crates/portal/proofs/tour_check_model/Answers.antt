@@ -1,5 +1,4 @@
 use Rattle.demands.proofs.Kept.{model_owed}
-use borrow.Author.Rules.{rules}
 use Rattle.portal.proofs.tour_check_model.Goals as goal
 
 pub returns : goal.returns

@@ -1,5 +1,4 @@
 use Rattle.demands.proofs.Kept.{walk_owed}
-use borrow.Author.Rules.{rules}
 use Rattle.portal.proofs.tour_walk.Goals as goal
 
 pub returns : goal.returns

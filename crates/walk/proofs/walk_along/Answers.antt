@@ -1,7 +1,5 @@
-use mathlib.Core.Path.{refl}
 use native.Mathlib.Omega.{arith}
 use Rattle.walk.proofs.Frames.{written_is, openings-is}
-use borrow.Author.Rules.{rules}
 use Rattle.walk.proofs.walk_along.Goals as goal
 
 pub walk_from-requires : goal.walk_from-requires
