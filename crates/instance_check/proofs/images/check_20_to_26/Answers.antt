@@ -1,14 +1,10 @@
 use mathlib.Core.Path.{◌≡◌}
 use mathlib.Core.Bool.{false}
 use Rattle.csdl.specs.Instance.{image20}
-use Rattle.csdl.specs.Verdict.{verdict, instance_means}
+use Rattle.csdl.specs.Verdict.{verdict}
 use Rattle.model_image.proofs.Parts.{layout}
 use Rattle.instance_image.proofs.Sizes.{sized}
 use Rattle.instance_check.proofs.images.check_20_to_26.Goals as goal
-
-pub returns-then-bad_instance : goal.returns-then-bad_instance
-unfolding verdict instance_means
-returns-then-bad_instance c = rw (← c.bad_instance.ensures, c.if-bad_instance.true)
 
 -- The test is not named below, so that an edit that turns it is refused for what does not follow from it.
 pub first_broken-requires : goal.first_broken-requires
