@@ -10,7 +10,7 @@ use lib.Seq.{get_or-take, get_or-drop, length-take-le}
 use borrow.Author.Tests.{le-ltb}
 use Rattle.packed.specs.Bytes.{part}
 use Rattle.packed.proofs.Laws.{two_bytes}
-use Rattle.sheet_lines.specs.Counts.{IsPrefixLen}
+use Rattle.io.specs.Counts.{IsPrefixLen}
 use Rattle.csdl.specs.Search.{tab}
 use Rattle.csdl.specs.Model.{Model, segments_at}
 use Rattle.csdl.specs.Image.{model_in, header, image1, buffer2}

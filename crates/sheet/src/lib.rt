@@ -2,7 +2,7 @@
 #![tactic(auto)]
 
 ghost use Rattle.std.specs.Prelude.{◌≡◌, ◌++◌, ◌≤◌, length, drop};
-ghost use Rattle.sheet_lines.specs.Counts.{IsPrefixLen};
+ghost use Rattle.io.specs.Counts.{IsPrefixLen};
 ghost use Rattle.csdl.specs.Verdict.{model_means, model_buffer};
 ghost use Rattle.sheet.specs.Sheet.{mark_of, first_text, mark_text};
 

@@ -1,10 +1,10 @@
--- The digits that `number::decimal` gives are those of `decimal`.
+-- The digits that `io::decimal` gives are those of `decimal`.
 use Prim.Native.Nat.{ℕ, zero, suc, ◌+◌, ◌-◌, ◌*◌, ◌/◌, ◌%◌, ◌^◌, ◌≤◌, ◌<◌}
 use mathlib.Core.Path.{◌≡◌}
 use native.Mathlib.Nat.{pow-suc, pow-le-pow_right, lt_of_not-le, one-le-pow}
 use native.Mathlib.Omega.{arith}
 use borrow.Author.Tests.{lt-ltb, le-ltb}
-use Rattle.sheet_lines.specs.Digits.{last_digits, hex_digit_ascii}
+use Rattle.io.specs.Digits.{last_digits, hex_digit_ascii}
 use Rattle.sheet_lines.specs.Text.{decimal_within}
 
 -- A digit below ten.

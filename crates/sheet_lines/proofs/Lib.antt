@@ -1,4 +1,2 @@
-pub mod Counting
 pub mod Digits
-pub mod Powers
 pub mod Putting

@@ -2,5 +2,4 @@
 #![tactic(auto)]
 
 pub mod line;
-mod number;
 mod text;

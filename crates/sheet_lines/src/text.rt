@@ -3,8 +3,6 @@ ghost use Rattle.std.specs.Prelude.{◌∷◌, [], ◌+◌, ◌≤◌, ◌<◌, 
 ghost use Rattle.sheet_lines.specs.Text.{decimal};
 ghost use Rattle.sheet_lines.specs.Put.{Put};
 
-use crate::number::decimal;
-
 // Each of these puts bytes at `at` and answers the place after them.
 
 pub(crate) fn put_byte(out: &mut [u8], at: usize, b: u8) -> usize
@@ -35,6 +33,6 @@ pub(crate) fn put_decimal(out: &mut [u8], at: usize, n: u16) -> usize
     ensures upper_bound { result ≤ at + 5 }
 {
     let mut digits = [0u8; 20];
-    let k = decimal(n as u64, &mut digits);
+    let k = io::decimal(n as u64, &mut digits);
     put_word(out, at, &digits[..k])
 }
