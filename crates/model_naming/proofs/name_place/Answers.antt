@@ -10,4 +10,4 @@ overflow_add-start c = let e : c.starts_of-from.result.names ≡ names_from c.ar
     record { fits = omega (arith, e, names-below c.args.image.now) }
 
 pub returns : goal.returns
-returns c = (rw (c.starts_of-from.ensures, c.counts_of.ensures, c.record_name-name.ensures.0), c.record_name-name.ensures.1)
+returns c = (rw (c.starts_of-from.ensures, c.counts_of.ensures) (omega (arith, c.record_name-name.ensures.0)), c.record_name-name.ensures.1)
