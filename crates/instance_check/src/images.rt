@@ -11,8 +11,9 @@ use crate::rules::first_broken;
 use csdl::InstanceAnswer;
 use instance_image::image::bad_instance;
 
-// Rules 20 to 26, of an instance of a model that keeps rule 1.
+// Rules 20 to 26, of an instance of a model that keeps rule 1. Its tables are not to lie on the stack beside those of the rules of the model.
 #[tactic(auto, unfolding(csdl::specs::Verdict::verdict, csdl::specs::Verdict::instance_means))]
+#[inline(never)]
 pub(crate) fn check_20_to_26(model: &[u8], instance: &[u8]) -> InstanceAnswer
     requires { images.image1 model.now ≡ false }
     ensures { instance_means result ≡ verdict 0 (whole 20 (image20 instance.now) ∷ []) (verdict (instance_places (instance_in instance.now)) (instance_stages (images.model_in model.now) (instance_in instance.now)) (accepted [])) }
