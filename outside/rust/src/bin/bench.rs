@@ -105,9 +105,16 @@ fn instructions() -> Result<Option<Vec<(f64, f64)>>, String> {
     counted.map(Some)
 }
 
+/// On some processors the C library fills and copies long arrays by `rep stosb`
+/// and `rep movsb`, which callgrind counts once for each byte: not here, so that
+/// the counts are of instructions, and the same on every processor.
+const NO_REPEATED_INSTRUCTIONS: &str = "glibc.cpu.x86_rep_stosb_threshold=1000000000:\
+                                        glibc.cpu.x86_rep_movsb_threshold=1000000000";
+
 fn count(file: &Path) -> Result<Vec<(f64, f64)>, String> {
     let program = std::env::current_exe().map_err(|e| said("the path of bench", e))?;
     let output = Command::new("valgrind")
+        .env("GLIBC_TUNABLES", NO_REPEATED_INSTRUCTIONS)
         .args(["--tool=callgrind", "--combine-dumps=yes"])
         .arg(format!("--callgrind-out-file={}", file.display()))
         .args([
