@@ -98,6 +98,7 @@ fn joined(hi: u64, lo: u64, k: usize, n: usize) -> u64
 }
 
 // A field of any width, 32 bits of the bytes at a time.
+#[inline(never)]
 fn long_field(s: &[u8], off: u32, width: u32) -> u64
     requires { width ≤ 64 }
     ensures value { result ≡ field_of s.now off width }
@@ -120,6 +121,7 @@ fn long_field(s: &[u8], off: u32, width: u32) -> u64
 
 // The number made of the `width` bits of s from bit `off` on, most significant first. Bits past the end are 0. A field that lies in one byte
 // or in two takes one read.
+#[inline(always)]
 pub fn field(s: &[u8], off: u32, width: u32) -> u64
     requires { width ≤ 64 }
     ensures value { result ≡ field_of s.now off width }

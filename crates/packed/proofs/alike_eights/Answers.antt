@@ -1,8 +1,5 @@
-use Prim.Native.Nat.{◌+◌, ◌-◌, ◌≤◌}
-use mathlib.Core.Path.{◌≡◌, sym, ◌∙◌}
+use mathlib.Core.Path.{sym, ◌∙◌}
 use native.Mathlib.Omega.{arith}
-use lib.ListN.{length, drop}
-use Rattle.packed.specs.Bytes.{common_start}
 use Rattle.packed.proofs.Laws.{common_more}
 use borrow.Author.Rules.{rules}
 use Rattle.packed.proofs.alike_eights.Goals as goal

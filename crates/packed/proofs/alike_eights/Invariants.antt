@@ -1,10 +1,7 @@
 use Prim.Native.Nat.{◌+◌, ◌-◌, ◌≤◌}
-use mathlib.Core.Path.{◌≡◌, sym, ◌∙◌}
-use native.Mathlib.Omega.{arith}
+use mathlib.Core.Path.{◌≡◌}
 use lib.ListN.{length, drop}
 use Rattle.packed.specs.Bytes.{common_start}
-use Rattle.packed.proofs.Laws.{common_more}
-use borrow.Author.Rules.{rules}
 use Rattle.packed.proofs.alike_eights.Given as goal
 
 abbrev pub invariant-loop-i : goal.invariant-loop-i

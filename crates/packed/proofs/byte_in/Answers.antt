@@ -1,6 +1,5 @@
 use native.Mathlib.Omega.{arith}
 use mathlib.Core.Path.{refl}
-use borrow.Author.Rules.{rules}
 use Rattle.packed.proofs.byte_in.Goals as goal
 
 pub overflow_cast-result : goal.overflow_cast-result

@@ -2,7 +2,6 @@ use Prim.Native.Nat.{◌*◌, ◌/◌, ◌^◌}
 use native.Mathlib.Omega.{arith}
 use Rattle.packed.proofs.Laws.{byte_pow}
 use lib.Bits.{and_mask}
-use borrow.Author.Rules.{rules}
 use Rattle.packed.proofs.byte_of.Goals as goal
 
 pub overflow_cast-result : goal.overflow_cast-result

@@ -1,8 +1,4 @@
-use Prim.Native.Nat.{min, ◌+◌, ◌-◌, ◌≤◌}
-use mathlib.Core.Path.{◌≡◌}
 use native.Mathlib.Omega.{arith}
-use lib.ListN.{length, drop}
-use Rattle.packed.specs.Bytes.{common_start}
 use Rattle.packed.proofs.Laws.{common_step, common_differ, common_end}
 use borrow.Author.Rules.{rules}
 use Rattle.packed.proofs.common_start.Goals as goal

@@ -3,7 +3,6 @@ use mathlib.Core.Path.{◌≡◌, sym}
 use native.Mathlib.Omega.{arith}
 use Rattle.packed.specs.Field.{field_of}
 use Rattle.packed.proofs.Laws.{field_byte, field_within}
-use borrow.Author.Rules.{rules}
 use Rattle.packed.proofs.field.Goals as goal
 
 pub returns-then-used-le8 : goal.returns-then-used-le8

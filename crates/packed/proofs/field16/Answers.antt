@@ -1,6 +1,5 @@
 use native.Mathlib.Omega.{arith}
 use lib.Pow.{pow_mono}
-use borrow.Author.Rules.{rules}
 use Rattle.packed.proofs.field16.Goals as goal
 
 pub overflow_cast-result : goal.overflow_cast-result

@@ -1,5 +1,4 @@
 use Rattle.packed.specs.Field.{flag_of}
-use borrow.Author.Rules.{rules}
 use Rattle.packed.proofs.flag.Goals as goal
 
 pub returns : goal.returns

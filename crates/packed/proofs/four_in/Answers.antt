@@ -1,6 +1,5 @@
 use native.Mathlib.Omega.{arith}
 use Rattle.packed.proofs.Laws.{field_32}
-use borrow.Author.Rules.{rules}
 use Rattle.packed.proofs.four_in.Goals as goal
 
 pub returns : goal.returns

@@ -1,6 +1,5 @@
 use lib.Bits.{or_shifted}
 use lib.Pow.{shl_exact}
-use borrow.Author.Rules.{rules}
 use Rattle.packed.proofs.joined.Goals as goal
 
 pub returns : goal.returns

@@ -1,9 +1,6 @@
-use Prim.Native.Nat.{◌+◌, ◌-◌, ◌^◌, ◌≤◌, ◌<◌}
+use Prim.Native.Nat.{◌-◌, ◌^◌, ◌≤◌, ◌<◌}
 use mathlib.Core.Path.{◌≡◌}
-use native.Mathlib.Omega.{arith}
 use Rattle.packed.specs.Field.{field_of}
-use Rattle.packed.proofs.Laws.{field_more, field_lt}
-use borrow.Author.Rules.{rules}
 use Rattle.packed.proofs.long_field.Given as goal
 
 abbrev pub invariant-loop-done : goal.invariant-loop-done

@@ -2,7 +2,6 @@ use native.Mathlib.Omega.{arith}
 use lib.Pow.{pow_pos}
 use lib.Bits.{and_mask, mask_lt}
 use Rattle.packed.proofs.Laws.{one_shl}
-use borrow.Author.Rules.{rules}
 use Rattle.packed.proofs.low_bits.Goals as goal
 
 pub overflow_sub-result : goal.overflow_sub-result

@@ -1,5 +1,4 @@
 use Rattle.packed.proofs.Laws.{field_pair}
-use borrow.Author.Rules.{rules}
 use Rattle.packed.proofs.pair_at.Goals as goal
 
 pub returns-then-i-s : goal.returns-then-i-s

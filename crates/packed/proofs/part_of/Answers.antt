@@ -1,6 +1,5 @@
 use native.Mathlib.Omega.{arith}
 use Rattle.packed.proofs.Laws.{part_none, part-rest, part-whole}
-use borrow.Author.Rules.{rules}
 use Rattle.packed.proofs.part_of.Goals as goal
 
 pub returns-then-s-a : goal.returns-then-s-a

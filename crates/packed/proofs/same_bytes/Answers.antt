@@ -1,6 +1,5 @@
 use mathlib.Core.Path.{sym}
 use Rattle.packed.proofs.Laws.{same_lengths, same_common}
-use borrow.Author.Rules.{rules}
 use Rattle.packed.proofs.same_bytes.Goals as goal
 
 pub returns-then-a-b : goal.returns-then-a-b

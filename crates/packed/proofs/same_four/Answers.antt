@@ -1,7 +1,6 @@
 use mathlib.Core.Path.{sym}
 use native.Mathlib.Omega.{arith}
 use Rattle.packed.proofs.Laws.{same_add}
-use borrow.Author.Rules.{rules}
 use Rattle.packed.proofs.same_four.Goals as goal
 
 pub returns : goal.returns

@@ -1,6 +1,5 @@
 use native.Mathlib.Omega.{arith}
 use Rattle.packed.proofs.Laws.{same_two}
-use borrow.Author.Rules.{rules}
 use Rattle.packed.proofs.same_two.Goals as goal
 
 pub returns : goal.returns

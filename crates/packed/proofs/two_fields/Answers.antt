@@ -4,7 +4,6 @@ use Rattle.packed.proofs.Laws.{field_high, field_low, field_lt}
 use Prim.Native.Nat.{◌+◌, ◌/◌, ◌^◌}
 use mathlib.Core.Path.{◌≡◌}
 use Rattle.packed.specs.Field.{field_of}
-use borrow.Author.Rules.{rules}
 use Rattle.packed.proofs.two_fields.Goals as goal
 
 pub overflow_cast-result-2 : goal.overflow_cast-result-2

@@ -1,5 +1,4 @@
 use Rattle.packed.proofs.Laws.{field_32}
-use borrow.Author.Rules.{rules}
 use Rattle.packed.proofs.word_at.Goals as goal
 
 pub returns : goal.returns
