@@ -134,14 +134,14 @@ module _ (model : List ℕ) where
         pub says_opened : opened_in w ≡ length slots
         pub opened-most : opened_in w ≤ i.slots
         -- (3h) The results fit into the stated buffer, and stand there as items; 255 with handle 0 stands for null only.
-        -- soundness/Demands.every_path, demands/Blocks.block-at, soundness/Plain.null-bytes
+        -- soundness/Demands.every_path, demands/Blocks.block_at, soundness/Plain.null-bytes
         pub results-most : results_in w ≤ 1 + i.slots + i.items
         pub item-bytes : (k : ℕ) → k < results_in w → part after (item_bytes * k) item_bytes ≡ bytes_of_item (get_or results k (null (at_slot 0)))
         pub null-bytes : (k : ℕ) → k < results_in w → part after (item_bytes * k) item_bytes ≡ 255 ∷ 0 ∷ 0 ∷ 0 ∷ [] → IsNull (get_or results k (null (at_slot 0)))
 
     -- tour_walk: the place, the path's number n, the start node v, with the result buffer.
     pub record WalkPromise (place n v : ℕ) (before : List ℕ) (w : ℕ) (after : List ℕ) : Type 0 where
-      -- (1a) A refusal leaves every byte; the buffer's length never changes. demands/Kept.walk-kept
+      -- (1a) A refusal leaves every byte; the buffer's length never changes. demands/Kept.walk_kept
       pub refused-leaves : 1 ≤ upper w → after ≡ before
       pub same_length : length after ≡ length before
       -- (2a), (2c) It accepts exactly where none of the rules 1 and 3 to 29 is broken; else it names the lowest, one of 1 to 29, and its lowest place,
@@ -158,5 +158,5 @@ module _ (model : List ℕ) where
       -- (3i) Every walk that is not refused is such a walk. soundness/Demands.premises_of_walk, soundness/Demands.each-is_held
       pub walks_a_path : upper w ≡ 0 → (kind : PathKind) × (r : ℕ) × (walk_path model place n ≡ PathOf kind r) × Held m kind r × MayStart kind r v
           × PathPromise kind r v w after
-      -- (3h) The bytes after the results stay. demands/Kept.walk-kept
+      -- (3h) The bytes after the results stay. demands/Kept.walk_kept
       pub rest-stays : upper w ≡ 0 → drop (item_bytes * results_in w) after ≡ drop (item_bytes * results_in w) before
