@@ -47,10 +47,7 @@ fn answer_all(rt: &(impl Print + Eprint + Alloc + Files), list: &mut impl Read) 
 
 fn main(rt: HostRuntime) {
     match fs::open(&rt, "list") {
-        Ok(file) => {
-            let mut list = file;
-            answer_all(&rt, &mut list);
-        }
+        Ok(mut list) => answer_all(&rt, &mut list),
         Err(error) => input::fail(&rt, b"list", error),
     }
 }

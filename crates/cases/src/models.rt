@@ -1,5 +1,5 @@
 // The check of a stored model.
-ghost use Rattle.std.specs.Prelude.{◌≡◌, ◌≤◌, length, take};
+ghost use Rattle.io.specs.Counts.{IsPrefixLen};
 
 use crate::{line, print};
 use csdl::ModelAnswer;
@@ -13,13 +13,10 @@ pub const FILL: u8 = 238;
 // Reads a file into the array and answers how many bytes it has. Where it cannot be opened it says so among the verdicts, so that the run
 // differs from the stored one, and answers 0.
 pub fn load(rt: &(impl Print + Eprint + Alloc + Files), path: &[u8], image: &mut [u8]) -> usize
-    ensures { (result ≤ length image.new) × (result ≡ length (take result image.new)) }
+    ensures { IsPrefixLen result image.new }
 {
     match input::open(rt, path) {
-        Ok(file) => {
-            let mut file = file;
-            read_full(&mut file, image)
-        }
+        Ok(mut file) => read_full(&mut file, image),
         Err(error) => {
             input::fail(rt, path, error);
             print::text(rt, b"unread ");
@@ -30,7 +27,7 @@ pub fn load(rt: &(impl Print + Eprint + Alloc + Files), path: &[u8], image: &mut
 
 // Reads until the array is full, the input ends or a read fails, and answers how many bytes it put at the start of the array.
 pub fn read_full(from: &mut impl Read, image: &mut [u8]) -> usize
-    ensures { (result ≤ length image.new) × (result ≡ length (take result image.new)) }
+    ensures { IsPrefixLen result image.new }
 {
     let mut done: usize = 0;
     while done < image.len() {

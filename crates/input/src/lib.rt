@@ -124,10 +124,7 @@ fn read_named(
         return read_image(rt, &mut rt.reader(), b"standard input", image);
     }
     match open(rt, name) {
-        Ok(file) => {
-            let mut file = file;
-            read_image(rt, &mut file, name, image)
-        }
+        Ok(mut file) => read_image(rt, &mut file, name, image),
         Err(error) => {
             fail(rt, name, error);
             UNREAD

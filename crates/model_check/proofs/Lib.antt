@@ -1,3 +1,3 @@
 pub mod Whole
-pub mod Answers
+pub mod AnswerLaws
 pub mod Then

@@ -1,6 +1,6 @@
 use mathlib.Core.Path.{refl, sym, ◌∙◌}
 use Rattle.model_image.proofs.Parts.{layout}
-use Rattle.model_check.proofs.Answers.{short, roomy, answer_bad, answer_short, answer_accepted, answer_refused, written_codes}
+use Rattle.model_check.proofs.AnswerLaws.{short, roomy, answer_bad, answer_short, answer_accepted, answer_refused, written_codes}
 use Rattle.model_check.proofs.check_model.Goals as goal
 
 pub returns-then-bad_image : goal.returns-then-bad_image

@@ -1,6 +1,6 @@
 use mathlib.Core.Path.{refl, sym, ◌∙◌}
 use Rattle.model_image.proofs.Parts.{layout}
-use Rattle.model_check.proofs.Answers.{then_bad, then_good}
+use Rattle.model_check.proofs.AnswerLaws.{then_bad, then_good}
 use Rattle.model_check.proofs.check_rules.Goals as goal
 
 pub returns-then-bad_image : goal.returns-then-bad_image

@@ -1,7 +1,7 @@
 use Prim.Native.Nat.{zero-le}
 use mathlib.Core.Path.{sym}
 use Rattle.csdl.specs.Verdict.{instance_means, walk_means}
-use Rattle.walk.proofs.Answers.{refused-before, few-slots}
+use Rattle.walk.proofs.AnswerLaws.{refused-before, few-slots}
 use Rattle.walk.proofs.walk.Goals as goal
 
 pub walk_conforming-requires : goal.walk_conforming-requires

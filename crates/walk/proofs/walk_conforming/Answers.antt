@@ -1,6 +1,6 @@
 use native.Mathlib.Omega.{arith}
 use Rattle.csdl.specs.Verdict.{walk_means}
-use Rattle.walk.proofs.Answers.{model_sized, keeps_20, refused_27_to_29, start_small, bytes_fit, few-opened, few-results, answered}
+use Rattle.walk.proofs.AnswerLaws.{model_sized, keeps_20, refused_27_to_29, start_small, bytes_fit, few-opened, few-results, answered}
 use Rattle.walk.proofs.walk_conforming.Goals as goal
 
 pub layout_of-at-requires : goal.layout_of-at-requires
