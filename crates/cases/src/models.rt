@@ -25,7 +25,7 @@ pub fn load(rt: &(impl Print + Eprint + Alloc + Files), path: &[u8], image: &mut
     }
 }
 
-// Reads until the array is full, the input ends or a read fails, and answers how many bytes it put at the start of the array.
+// Fills the array from its start, as far as the input goes; a read that fails counts as the end. Answers how many bytes it has.
 pub fn read_full(from: &mut impl Read, image: &mut [u8]) -> usize
     ensures { IsPrefixLen result image.new }
 {
