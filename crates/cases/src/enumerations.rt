@@ -1,7 +1,7 @@
 // The check of stored members of enumerations.
 use crate::models::load;
 use crate::{line, print};
-use csdl::MembersAnswer;
+use enumeration_members::check_members;
 use input::IMAGE_SIZE;
 use std::rt::Files;
 
@@ -13,15 +13,5 @@ pub fn check(rt: &(impl Print + Eprint + Alloc + Files), text: &[u8]) {
     let m = load(rt, line::model(text), &mut image);
     let mut stored = [0u8; MEMBERS_SIZE];
     let n = load(rt, line::second(text), &mut stored);
-    print_members(
-        rt,
-        enumeration_members::check_members(&image[..m], &stored[..n]),
-    );
-}
-
-fn print_members(rt: &impl Print, answer: MembersAnswer) {
-    match answer {
-        MembersAnswer::Conforms => print::conforms(rt),
-        MembersAnswer::Refused { rule, place } => print::refused(rt, rule, place),
-    }
+    print::conforming(rt, check_members(&image[..m], &stored[..n]));
 }

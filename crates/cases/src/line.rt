@@ -1,14 +1,11 @@
 // A line of the list: columns of text, padded with blanks, and of decimal digits.
-ghost use Rattle.std.specs.Prelude.{◌≡◌, ◌≤◌};
+ghost use Rattle.std.specs.Prelude.{◌≤◌};
 
 // The bytes of a line, its end with them.
 pub const SIZE: usize = 190;
 
-pub fn letter(text: &[u8]) -> u8 {
-    if text.len() == 0 {
-        return 0;
-    }
-    text[0]
+pub fn letter(text: &[u8]) -> Option<u8> {
+    text.first().copied()
 }
 
 pub fn name(text: &[u8]) -> &[u8] {
@@ -48,49 +45,32 @@ pub fn node(text: &[u8]) -> u32 {
     number(packed::part_of(text, 179, 10))
 }
 
-// What stands in a column, without the blanks that pad it.
+// What stands in a column, up to the first of the blanks that pad it.
 fn column(text: &[u8], start: u32, width: u32) -> &[u8] {
     let padded = packed::part_of(text, start, width);
-    packed::part_of(padded, 0, before_blank(padded) as u32)
-}
-
-// How many bytes stand before the first blank.
-fn before_blank(s: &[u8]) -> u16 {
-    let mut i: usize = 0;
-    while i < s.len() {
-        if s[i] == b' ' {
-            return (i % 65536) as u16;
-        }
-        i += 1;
-    }
-    (i % 65536) as u16
+    let size = padded
+        .iter()
+        .position(|b| *b == b' ')
+        .unwrap_or(padded.len());
+    &padded[..size]
 }
 
 // The number that decimal digits spell, modulo 2^32.
 fn number(digits: &[u8]) -> u32 {
     let mut r: u64 = 0;
-    let mut i: usize = 0;
-    while i < digits.len() {
-        r = (10 * r + digit(digits[i])) % 4294967296;
-        i += 1;
+    for b in digits {
+        r = (10 * r + digit(*b)) % 4294967296;
     }
     r as u32
 }
 
+// What a digit counts; other bytes count nothing.
 fn digit(b: u8) -> u64
     ensures { result ≤ 9 }
 {
-    if b < 48 {
-        return 0;
+    if b.is_ascii_digit() {
+        (b - b'0') as u64
+    } else {
+        0
     }
-    if 57 < b {
-        return 0;
-    }
-    wide(b - 48)
-}
-
-fn wide(b: u8) -> u64
-    ensures { result ≡ b }
-{
-    b as u64
 }

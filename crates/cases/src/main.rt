@@ -17,10 +17,10 @@ fn answer(rt: &(impl Print + Eprint + Alloc + Files), text: &[u8]) {
     print::text(rt, line::name(text));
     print::text(rt, b" ");
     match line::letter(text) {
-        b'm' => models::check(rt, text),
-        b'i' => instances::check(rt, text),
-        b'w' => instances::walk(rt, text),
-        b'e' => enumerations::check(rt, text),
+        Some(b'm') => models::check(rt, text),
+        Some(b'i') => instances::check(rt, text),
+        Some(b'w') => instances::walk(rt, text),
+        Some(b'e') => enumerations::check(rt, text),
         _ => print::text(rt, b"unknown"),
     }
     print::text(rt, b"\n");
@@ -29,19 +29,19 @@ fn answer(rt: &(impl Print + Eprint + Alloc + Files), text: &[u8]) {
 // Reads a line, answers its case and says whether to go on.
 fn answer_next(rt: &(impl Print + Eprint + Alloc + Files), list: &mut impl Read) -> bool {
     let mut text = [0u8; line::SIZE];
-    let n = models::read_full(list, &mut text);
-    if n < line::SIZE {
+    if input::fill(list, &mut text).size < line::SIZE {
         return false;
     }
     answer(rt, &text);
     true
 }
 
-// A proved loop has to end, so it counts its turns down, from a number that no list uses up.
+// A proved loop has to end: no list has as many lines.
 fn answer_all(rt: &(impl Print + Eprint + Alloc + Files), list: &mut impl Read) {
-    let mut turns = u64::MAX;
-    while turns > 0 && answer_next(rt, list) {
-        turns -= 1;
+    for _ in 0..u64::MAX {
+        if !answer_next(rt, list) {
+            break;
+        }
     }
 }
 

@@ -1,43 +1,27 @@
 // The check of a stored model.
-ghost use Rattle.io.specs.Counts.{IsPrefixLen};
+ghost use Rattle.std.specs.Prelude.{◌≡◌, ◌≤◌, length, take};
 
 use crate::{line, print};
-use csdl::ModelAnswer;
+use csdl::Refusal;
 use input::IMAGE_SIZE;
-use std::io::Read;
 use std::rt::Files;
 
 // What each byte of a buffer holds before the call.
 pub const FILL: u8 = 238;
 
-// Reads a file into the array and answers how many bytes it has. Where it cannot be opened it says so among the verdicts, so that the run
+// Reads a file into the array and answers how many bytes it has; a read that fails counts as the end. Where it cannot be opened it says so among the verdicts, so that the run
 // differs from the stored one, and answers 0.
 pub fn load(rt: &(impl Print + Eprint + Alloc + Files), path: &[u8], image: &mut [u8]) -> usize
-    ensures { IsPrefixLen result image.new }
+    ensures { (result ≤ length image.new) × (result ≡ length (take result image.new)) }
 {
     match input::open(rt, path) {
-        Ok(mut file) => read_full(&mut file, image),
+        Ok(mut file) => input::fill(&mut file, image).size,
         Err(error) => {
             input::fail(rt, path, error);
             print::text(rt, b"unread ");
             0
         }
     }
-}
-
-// Fills the array from its start, as far as the input goes; a read that fails counts as the end. Answers how many bytes it has.
-pub fn read_full(from: &mut impl Read, image: &mut [u8]) -> usize
-    ensures { IsPrefixLen result image.new }
-{
-    let mut done: usize = 0;
-    while done < image.len() {
-        let n = from.read(&mut image[done..]).unwrap_or(0);
-        if n == 0 {
-            break;
-        }
-        done += n;
-    }
-    done
 }
 
 pub fn check(rt: &(impl Print + Eprint + Alloc + Files), text: &[u8]) {
@@ -50,10 +34,7 @@ pub fn check(rt: &(impl Print + Eprint + Alloc + Files), text: &[u8]) {
 }
 
 // The check with the first bytes of the buffer lent, or all of it where it has not so many.
-fn check_lent(image: &[u8], buffer: &mut [u8], lent: u32) -> ModelAnswer {
-    let n = lent as usize;
-    if n < buffer.len() {
-        return model_check::check_model(image, &mut buffer[..n]);
-    }
-    model_check::check_model(image, buffer)
+fn check_lent(image: &[u8], buffer: &mut [u8], lent: u32) -> Result<u16, Refusal> {
+    let n = buffer.len().min(lent as usize);
+    model_check::check_model(image, &mut buffer[..n])
 }

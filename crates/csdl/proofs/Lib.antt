@@ -18,3 +18,4 @@ pub mod Nulls
 pub mod Later
 pub mod Members
 pub mod MemberExamples
+pub mod Chains

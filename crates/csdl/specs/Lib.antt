@@ -18,3 +18,4 @@ pub mod Relations
 pub mod Accepted
 pub mod Later
 pub mod Members
+pub mod Kinds

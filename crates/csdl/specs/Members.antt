@@ -14,8 +14,6 @@ use Rattle.csdl.specs.Verdict.{Answer, Stage, verdict, model_then}
 use Rattle.csdl.specs.Verdict.Answer.{accepted, refused}
 use Rattle.csdl.specs.Verdict.Stage.{whole, each}
 use Rattle.csdl.specs.Accepted.{Unbroken, ModelPasses}
-use Rattle.csdl.specs.declared.MembersAnswer.{MembersAnswer}
-use Rattle.csdl.specs.declared.MembersAnswer.TheVariants.{Conforms, Refused}
 
 -- Member, 12 bytes: type 6, given 1, name, value 64, spare 5. A record past the end of the table reads as zeros.
 abbrev pub member_sizes : List ℕ
@@ -159,11 +157,6 @@ members_verdict m e = verdict e.count (member_stages m e) (accepted [])
 
 unfoldable pub members_answer : List ℕ → List ℕ → Answer
 members_answer model image = model_then model (verdict 0 (image_stages image) (members_verdict (model_in model) (members_in image)))
-
--- The paper's number and values for each case of the answer that the code returns.
-unfoldable pub members_means : MembersAnswer → Answer
-members_means Conforms = accepted []
-members_means (Refused rule place) = refused rule place
 
 -- What an acceptance says: the model breaks none of its rules, the image none of 30 and 31 at any member.
 pub record MembersPass (model image : List ℕ) : Type 0 where

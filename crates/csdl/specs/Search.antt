@@ -1,5 +1,5 @@
 -- Searches and counts over numbers, and lists made of them. Every loop of the definitions is one of these.
-use Rattle.std.specs.Prelude.{ℕ, zero, suc, ◌+◌, List, [], ◌∷◌, ◌++◌, Bool, true, false, cond, not, ◌&&◌, ◌||◌}
+use Rattle.std.specs.Prelude.{ℕ, zero, suc, ◌+◌, List, [], ◌∷◌, ◌++◌, Bool, true, false, cond, not, ◌&&◌, ◌||◌, Option, Some, None}
 
 -- The first of the n numbers from i on that passes the test, plus 1; 0 where none does.
 unfoldable pub first_from : (ℕ → Bool) → ℕ → ℕ → ℕ
@@ -73,6 +73,11 @@ last_fails test (x ∷ l) = not (test (last_or x l))
 abbrev pub if_found : {A : Type 0} → A → (ℕ → A) → ℕ → A
 if_found d f zero = d
 if_found d f (suc k) = f k
+
+-- The same as an option, as the code answers it.
+abbrev pub found : ℕ → Option ℕ
+found zero = None
+found (suc k) = Some k
 
 -- A record that was found (0 for none, else its number plus 1), as a place (0 for none, else the place plus 1): the table's records start at
 -- place `first`.

@@ -1,5 +1,5 @@
 -- Verdicts: the first broken stage of a list and the lowest place that breaks it, or acceptance.
-use Rattle.std.specs.Prelude.{ℕ, ◌+◌, ◌*◌, List, [], ◌∷◌, ◌++◌, Bool, cond, drop}
+use Rattle.std.specs.Prelude.{ℕ, ◌+◌, ◌*◌, List, [], ◌∷◌, ◌++◌, Bool, cond, drop, Result, Ok, Err}
 use Rattle.packed.specs.Bytes.{high_byte, low_byte}
 use Rattle.csdl.specs.Search.{first_from, tab, flat, if_found}
 use Rattle.csdl.specs.Model.{Model, places, record_at}
@@ -11,12 +11,8 @@ use Rattle.csdl.specs.Types.{rule8, rule9}
 use Rattle.csdl.specs.Properties.{rule10, rule11, rule12}
 use Rattle.csdl.specs.Paths.{rule13, rule14, rule15, rule16, rule17, rule18, rule19}
 use Rattle.csdl.specs.declared.Record.{Record}
-use Rattle.csdl.specs.declared.ModelAnswer.{ModelAnswer}
-use Rattle.csdl.specs.declared.ModelAnswer.TheVariants as model
-use Rattle.csdl.specs.declared.InstanceAnswer.{InstanceAnswer}
-use Rattle.csdl.specs.declared.InstanceAnswer.TheVariants as instance
-use Rattle.csdl.specs.declared.WalkAnswer.{WalkAnswer}
-use Rattle.csdl.specs.declared.WalkAnswer.TheVariants as walk
+use Rattle.csdl.specs.declared.Refusal.{Refusal}
+use Rattle.csdl.specs.declared.Walked.{Walked}
 
 -- What a call answers: accepted, with the numbers that it reports, or refused, with the rule's number and the place.
 pub data Answer : Type 0 where
@@ -24,17 +20,17 @@ pub data Answer : Type 0 where
   refused : ℕ → ℕ → Answer
 
 -- The paper's number and values for each case of the answers that the code returns.
-unfoldable pub model_means : ModelAnswer → Answer
-model_means (model.Accepted segments) = accepted (segments ∷ [])
-model_means (model.Refused rule place) = refused rule place
+unfoldable pub model_means : Result ℕ Refusal → Answer
+model_means (Ok segments) = accepted (segments ∷ [])
+model_means (Err r) = refused r.rule r.place
 
-unfoldable pub instance_means : InstanceAnswer → Answer
-instance_means instance.Conforms = accepted []
-instance_means (instance.Refused rule place) = refused rule place
+unfoldable pub instance_means : Result (Unit {0}) Refusal → Answer
+instance_means (Ok _) = accepted []
+instance_means (Err r) = refused r.rule r.place
 
-unfoldable pub walk_means : WalkAnswer → Answer
-walk_means (walk.Walked results opened) = accepted (results ∷ opened ∷ [])
-walk_means (walk.Refused rule place) = refused rule place
+unfoldable pub walk_means : Result Walked Refusal → Answer
+walk_means (Ok w) = accepted (w.results ∷ w.opened ∷ [])
+walk_means (Err r) = refused r.rule r.place
 
 -- A stage of a check: a rule of the whole call, at place 0, or a rule asked of every place.
 pub data Stage : Type 0 where

@@ -1,6 +1,6 @@
 -- The walk of a path through an instance, with its trace: the items at each stage, the slots opened, where each null came in, and whether
 -- it reaches its end.
-use Rattle.std.specs.Prelude.{ℕ, zero, suc, ◌+◌, ◌-◌, ◌*◌, ◌/◌, ◌%◌, ◌^◌, List, [], ◌∷◌, ◌++◌, Bool, true, false, cond, not, ◌&&◌, ◌||◌, length, eqb, ltb}
+use Rattle.std.specs.Prelude.{ℕ, zero, suc, ◌+◌, ◌-◌, ◌*◌, ◌/◌, ◌%◌, ◌^◌, List, [], ◌∷◌, ◌++◌, Bool, true, false, cond, not, ◌&&◌, ◌||◌, length, eqb, ltb, Option, Some, None}
 use Rattle.packed.specs.Bytes.{same}
 use Rattle.csdl.specs.Search.{first_from, tab, flat, all, if_found}
 use Rattle.csdl.specs.Model.{Model, property_text, present, record_at}
@@ -15,8 +15,7 @@ use Rattle.csdl.specs.Image.{model_in}
 use Rattle.csdl.specs.Verdict.{Answer, verdict, leaves}
 use Rattle.csdl.specs.Verdict.Answer.{accepted}
 use Rattle.csdl.specs.Verdict.Stage.{whole}
-use Rattle.csdl.specs.declared.Chosen.{Chosen}
-use Rattle.csdl.specs.declared.Chosen.TheVariants.{NoPath, PathOf}
+use Rattle.csdl.specs.declared.Holder.{Holder}
 use Rattle.csdl.specs.declared.Record.{Record}
 use Rattle.csdl.specs.declared.Record.TheVariants.{OfSchema, OfType, OfProperty, OfKey, OfConstraint, OfChild, OfBinding, OfSegment, Nowhere}
 
@@ -96,33 +95,33 @@ abbrev pub start : Instance → ℕ → List Item
 start i v = value (i.node_type v) v ∷ []
 
 -- The path of a record: 0 is its path, 1 the principal or target path. The kind, if the record holds such a path.
-abbrev pub if_present : Model → PathKind → ℕ → Chosen
-if_present m w r = cond (present (path_of m w r)) (PathOf w r) NoPath
+abbrev pub if_present : Model → PathKind → ℕ → Option Holder
+if_present m w r = cond (present (path_of m w r)) (Some (record { kind = w; number = r })) None
 
-unfoldable pub path_chosen : Model → Record → ℕ → Chosen
-path_chosen m (OfSchema s) n = NoPath
-path_chosen m (OfType t) n = NoPath
-path_chosen m (OfProperty p) n = cond (eqb n 0) (if_present m Partner p) NoPath
-path_chosen m (OfKey k) n = cond (eqb n 0) (if_present m Key k) NoPath
-path_chosen m (OfConstraint c) n = cond (eqb n 0) (if_present m Dependent c) (cond (eqb n 1) (if_present m Principal c) NoPath)
-path_chosen m (OfChild h) n = NoPath
-path_chosen m (OfBinding b) n = cond (eqb n 0) (if_present m Binding b) (cond (eqb n 1) (if_present m Target b) NoPath)
-path_chosen m (OfSegment g) n = NoPath
-path_chosen m Nowhere n = NoPath
+unfoldable pub path_chosen : Model → Record → ℕ → Option Holder
+path_chosen m (OfSchema s) n = None
+path_chosen m (OfType t) n = None
+path_chosen m (OfProperty p) n = cond (eqb n 0) (if_present m Partner p) None
+path_chosen m (OfKey k) n = cond (eqb n 0) (if_present m Key k) None
+path_chosen m (OfConstraint c) n = cond (eqb n 0) (if_present m Dependent c) (cond (eqb n 1) (if_present m Principal c) None)
+path_chosen m (OfChild h) n = None
+path_chosen m (OfBinding b) n = cond (eqb n 0) (if_present m Binding b) (cond (eqb n 1) (if_present m Target b) None)
+path_chosen m (OfSegment g) n = None
+path_chosen m Nowhere n = None
 
 -- The path's start type and segments. Without a path there is no start type, and there are no segments.
-abbrev pub chosen_start : Model → Chosen → ℕ
-chosen_start m NoPath = no_reference
-chosen_start m (PathOf w r) = start_of m w r
+abbrev pub chosen_start : Model → Option Holder → ℕ
+chosen_start m None = no_reference
+chosen_start m (Some h) = start_of m h.kind h.number
 
-abbrev pub chosen_segments : Model → Chosen → List Segment
-chosen_segments m NoPath = []
-chosen_segments m (PathOf w r) = segments_of m (path_of m w r)
+abbrev pub chosen_segments : Model → Option Holder → List Segment
+chosen_segments m None = []
+chosen_segments m (Some h) = segments_of m (path_of m h.kind h.number)
 
 -- Rule 27: the record has no such path.
-abbrev pub walk27 : Chosen → Bool
-walk27 NoPath = true
-walk27 (PathOf w r) = false
+abbrev pub walk27 : Option Holder → Bool
+walk27 None = true
+walk27 (Some h) = false
 
 -- Rule 28. 28a: the start node is not there. 28b: it is not at the start type.
 unfoldable pub walk28 : Model → Instance → ℕ → ℕ → Bool
@@ -148,7 +147,7 @@ unfoldable pub bytes_of_item : Item → List ℕ
 bytes_of_item x = bytes_of_item_by item_form x
 
 -- The results of a walk and the slots that it opened.
-abbrev pub walk_path : List ℕ → ℕ → ℕ → Chosen
+abbrev pub walk_path : List ℕ → ℕ → ℕ → Option Holder
 walk_path model place n = path_chosen (model_in model) (record_at (model_in model) place) n
 
 unfoldable pub walk_results : List ℕ → List ℕ → ℕ → ℕ → ℕ → List Item

@@ -1,8 +1,8 @@
-// Runs of records, the answers of the calls, the records and the kinds of path, as the definitions in specs/ name them.
+// Runs of records, the records, the kinds of path, of type and of slot, and what the calls answer, as the definitions in specs/ name them.
 #![tactic(auto)]
 
 // A path, and any other run of records of a table: the first, and how many; count 0 means absent.
-#[derive(Clone, Copy)]
+#[derive(Clone, Copy, PartialEq, Eq)]
 pub struct Run {
     pub first: u16,
     pub count: u16,
@@ -12,7 +12,7 @@ pub struct Run {
 pub const VERSION: u16 = 0x0402;
 
 // Where a place lies: the table and the number of its record, or past the last record.
-#[derive(Clone, Copy)]
+#[derive(Clone, Copy, PartialEq, Eq)]
 pub enum Record {
     OfSchema(u16),
     OfType(u16),
@@ -26,7 +26,7 @@ pub enum Record {
 }
 
 // The six kinds of path, by what holds one.
-#[derive(Clone, Copy)]
+#[derive(Clone, Copy, PartialEq, Eq)]
 pub enum PathKind {
     Partner,
     Key,
@@ -36,15 +36,15 @@ pub enum PathKind {
     Target,
 }
 
-// The path that a walk takes: of a kind and a record that holds it, or none.
-#[derive(Clone, Copy)]
-pub enum Chosen {
-    NoPath,
-    PathOf { kind: PathKind, holder: u16 },
+// A record that holds a path of the kind.
+#[derive(Clone, Copy, PartialEq, Eq)]
+pub struct Holder {
+    pub kind: PathKind,
+    pub number: u16,
 }
 
 // Where a place of an instance lies.
-#[derive(Clone, Copy)]
+#[derive(Clone, Copy, PartialEq, Eq)]
 pub enum InstanceRecord {
     OfNode(u16),
     OfSlot(u16),
@@ -52,30 +52,33 @@ pub enum InstanceRecord {
     Outside,
 }
 
-// The answer of the check of a model.
-#[derive(Clone, Copy)]
-pub enum ModelAnswer {
-    Accepted { segments: u16 },
-    Refused { rule: u16, place: u16 },
+// The kinds of type.
+#[derive(Clone, Copy, PartialEq, Eq)]
+pub enum TypeKind {
+    Entity,
+    Complex,
+    Enumeration,
+    Definition,
 }
 
-// The answer of the check of an instance.
-#[derive(Clone, Copy)]
-pub enum InstanceAnswer {
-    Conforms,
-    Refused { rule: u16, place: u16 },
+// What a slot holds: nothing, one item, a run of items.
+#[derive(Clone, Copy, PartialEq, Eq)]
+pub enum SlotState {
+    Null,
+    Single,
+    Collection,
 }
 
-// The answer of a walk.
-#[derive(Clone, Copy)]
-pub enum WalkAnswer {
-    Walked { results: u16, opened: u16 },
-    Refused { rule: u16, place: u16 },
+// Why a call refuses: the number of the first broken rule, and the lowest place that breaks it.
+#[derive(Clone, Copy, PartialEq, Eq)]
+pub struct Refusal {
+    pub rule: u16,
+    pub place: u16,
 }
 
-// The answer of the check of enumeration members.
-#[derive(Clone, Copy)]
-pub enum MembersAnswer {
-    Conforms,
-    Refused { rule: u16, place: u16 },
+// What a walk reports: how many results it has, and how many slots it opened.
+#[derive(Clone, Copy, PartialEq, Eq)]
+pub struct Walked {
+    pub results: u16,
+    pub opened: u16,
 }

@@ -9,6 +9,7 @@ use lib.Seq.{drop_at}
 use lib.Dec.{eqb}
 use borrow.Author.Tests.{eq-eqb, ne_eqb, eqb-true, eqb-false, ltb-false, le-ltb}
 use Rattle.packed.specs.Bytes.{part}
+use Rattle.std.proofs.Common.{Some}
 use Rattle.csdl.specs.Search.{tab}
 use Rattle.csdl.specs.Model.{Model, present}
 use Rattle.csdl.specs.Image.{model_in, header, buffer2}
@@ -23,7 +24,6 @@ use Rattle.csdl.specs.Verdict.Answer.{accepted, refused}
 use Rattle.csdl.specs.Conforms.{instance_answer}
 use Rattle.csdl.specs.Walk.{Item, walked, start, walk_path, walk28, walk29, walk_results, walk_opened, walk_answer, walk_buffer, result_bytes, bytes_of_item}
 use Rattle.csdl.specs.Members.{members_answer}
-use Rattle.csdl.specs.declared.Chosen.TheVariants.{PathOf}
 use Rattle.csdl.specs.Walk.Item.{null}
 use Rattle.csdl.specs.Walk.Origin.{at_slot}
 use Rattle.csdl.specs.Accepted.{ModelPasses, WalkPasses}
@@ -250,7 +250,7 @@ module _ (model image : List ℕ) (place n v : ℕ) (before : List ℕ) where
   rest_in h = omega (arith, each-length, (says_two h).0)
 
   -- The walk along the path of a kind that record r holds.
-  module _ (conforms : instance_answer model image ≡ accepted []) (kind : PathKind) (r : ℕ) (path : walk_path model place n ≡ PathOf kind r)
+  module _ (conforms : instance_answer model image ≡ accepted []) (kind : PathKind) (r : ℕ) (path : walk_path model place n ≡ Some (record { kind = kind; number = r }))
       (there : v < (instance_in image).nodes) (fitting : ancestor_or_self (model_in model) (start_of (model_in model) kind r) ((instance_in image).node_type v) ≡ true) where
     abbrev along : List Item
     along = walked (model_in model) (instance_in image) (segments_of (model_in model) (path_of (model_in model) kind r)) (start (instance_in image) v)
@@ -305,7 +305,7 @@ module _ (model image : List ℕ) (place n v : ℕ) (before : List ℕ) where
           (walk_refuses model image place n v before (upper ww) (lower ww)).0 (stopped_in h),
         );
         every_path = λ p kind r h e f g room.
-            let c : walk_path model place n ≡ PathOf kind r = rw (e, f) (held_chosen (model_in model) kind r h) in
+            let c : walk_path model place n ≡ Some (record { kind = kind; number = r }) = rw (e, f) (held_chosen (model_in model) kind r h) in
             let q = (instance_accepts model image).1 p in
             let o = not-refused model image q place n kind r c v g.0 g.1 before room in
             let z = walk_back ((walk_accepts model image place n v before _).0 o).0 in

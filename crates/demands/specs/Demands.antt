@@ -7,7 +7,7 @@
 --
 -- Demand 1, that every call ends on all inputs and touches only what it was lent, is the language's: a proved function ends, and reaches nothing
 -- but its slices. That a refusal leaves every byte is said here (1a). Demand 2 is (2a) to (2f), demand 3 is (3a) to (3i).
-use Rattle.std.specs.Prelude.{ℕ, ◌+◌, ◌*◌, ◌≤◌, ◌<◌, ◌≡◌, List, [], ◌∷◌, true, false, ◌↔◌, ◌⊎◌, length, drop, get_or}
+use Rattle.std.specs.Prelude.{ℕ, ◌+◌, ◌*◌, ◌≤◌, ◌<◌, ◌≡◌, List, [], ◌∷◌, true, false, ◌↔◌, ◌⊎◌, length, drop, get_or, Some}
 use Rattle.packed.specs.Bytes.{part}
 use Rattle.csdl.specs.declared.Run.{Run}
 use Rattle.csdl.specs.Model.{Model, in_run, places}
@@ -20,7 +20,6 @@ use Rattle.csdl.specs.Path.Step.{nothing}
 use Rattle.csdl.specs.Instance.{Instance, instance_in, instance_places, item_bytes}
 use Rattle.csdl.specs.Verdict.{step_code, bytes_of}
 use Rattle.csdl.specs.Walk.{Item, reaches_end, start, walked, opened, walk_path, bytes_of_item}
-use Rattle.csdl.specs.declared.Chosen.TheVariants.{PathOf}
 use Rattle.csdl.specs.Walk.Item.{null, value}
 use Rattle.csdl.specs.Walk.Origin.{at_slot}
 use Rattle.csdl.specs.Relations.{Ancestor}
@@ -156,7 +155,7 @@ module _ (model : List ℕ) where
       pub every_path : InstancePasses model image → (kind : PathKind) (r : ℕ) → Held m kind r → place ≡ held_place m kind r → n ≡ held_number kind →
           MayStart kind r v → item_bytes * (1 + i.slots + i.items) ≤ length before → (upper w ≡ 0) × PathPromise kind r v w after
       -- (3i) Every walk that is not refused is such a walk. soundness/Demands.premises_of_walk, soundness/Demands.each-is_held
-      pub walks_a_path : upper w ≡ 0 → (kind : PathKind) × (r : ℕ) × (walk_path model place n ≡ PathOf kind r) × Held m kind r × MayStart kind r v
+      pub walks_a_path : upper w ≡ 0 → (kind : PathKind) × (r : ℕ) × (walk_path model place n ≡ Some (record { kind = kind; number = r })) × Held m kind r × MayStart kind r v
           × PathPromise kind r v w after
       -- (3h) The bytes after the results stay. demands/Kept.walk_kept
       pub rest-stays : upper w ≡ 0 → drop (item_bytes * results_in w) after ≡ drop (item_bytes * results_in w) before

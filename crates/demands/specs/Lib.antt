@@ -1,2 +1,3 @@
-pub mod Word
 pub mod Demands
+pub mod Refusals
+pub mod Word

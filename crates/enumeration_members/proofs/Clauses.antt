@@ -1,35 +1,22 @@
--- Rule 31 by its clauses, of what the code has at hand. Assumes nothing.
-use Prim.Native.Nat.{ℕ}
-use mathlib.Core.Path.{◌≡◌}
-use mathlib.Core.List.{List, []}
-use mathlib.Core.Bool.{Bool, false, cond, not, ◌||◌}
-use borrow.Author.Tests.{ne_eqb}
-use Rattle.csdl.specs.Search.{if_found}
-use Rattle.csdl.specs.Tables.{type_underlying}
-use Rattle.csdl.specs.Model.{Model, model_of}
+-- Partial answers as options: 31b by the first member of the type, and what a loop finds. Assumes nothing.
+use Rattle.std.proofs.Common.{◌≡◌, refl, sym, subst, add-one, ℕ, zero, suc, ◌+◌, Option, Some, None, MatchOption}
+use mathlib.Core.Bool.{Bool, true, false, not, beq}
 use Rattle.csdl.specs.Properties.{alike}
-use Rattle.csdl.specs.Members.{members_of, member_type_in, member_given_in, member_value_in, signed, fits, member_value, same_member, member31, member31a, member31b, member31c}
-use Rattle.csdl.specs.Members.Signed.{plus}
-use Rattle.enumeration_members.specs.Earlier.{count_of, first_of}
+use Rattle.csdl.specs.Search.{first_from, if_found, found}
 
--- 31a: members of other types, s and r, are not alike.
-pub other-type : (table names : List ℕ) (r s a b : ℕ) → a ≡ member_type_in table s → b ≡ member_type_in table r → (a ≡ b → ⊥)
-    → false ≡ same_member (members_of table names) r s
-unfolding same_member members_of
-other-type table names r s a b p q d = rw (← p, ← q, ne_eqb a b d)
+pub by_first : (test : ℕ → Bool) (f : ℕ) (first : Option ℕ) → first ≡ found f → MatchOption first (if_found false test f ≡ false) (λ s. if_found false test f ≡ test s)
+by_first test zero first e = subst (λ o. MatchOption o (if_found false test 0 ≡ false) (λ s. if_found false test 0 ≡ test s)) (sym e) refl
+by_first test (suc k) first e = subst (λ o. MatchOption o (if_found false test (suc k) ≡ false) (λ s. if_found false test (suc k) ≡ test s)) (sym e) refl
 
--- 31b and 31c, by how many earlier members of its type there are, and the first.
-pub by_earlier : (types table : List ℕ) (r count first : ℕ) (repeated u v : Bool) → count ≡ count_of (members_of table []) r (member_type_in table r)
-    → first ≡ first_of (members_of table []) r (member_type_in table r)
-    → u ≡ if_found false (λ s. not (alike (member_given_in table s) (member_given_in table r))) first
-    → v ≡ not (fits (type_underlying types (member_type_in table r)) (cond (member_given_in table r) (signed (member_value_in table r)) (plus count)))
-    → (repeated || u || v)
-    ≡ (repeated || member31b (members_of table []) r || member31c (model_of [] types [] [] [] [] [] [] []) (members_of table []) r)
-unfolding member31b member31c member_value members_of model_of
-by_earlier types table r count first repeated u v c f p q = rw (← f, ← p, ← c, ← q)
+pub unlike : (a b : Bool) → not (beq a b) ≡ not (alike a b)
+unlike true true = refl
+unlike true false = refl
+unlike false true = refl
+unlike false false = refl
 
--- All of it; only 31a reads the names.
-pub by_clauses : (m : Model) (table names : List ℕ) (r : ℕ) (repeated broken : Bool) → repeated ≡ member31a (members_of table names) r
-    → broken ≡ (repeated || member31b (members_of table []) r || member31c m (members_of table []) r) → broken ≡ member31 m (members_of table names) r
-unfolding member31 member31b member31c member_value members_of
-by_clauses m table names r repeated broken e f = rw (← e) f
+module _ (test : ℕ → Bool) (i n m : ℕ) (e : n ≡ m) where
+  pub found_hit : i + 1 ≡ first_from test 0 n → Some i ≡ found (first_from test 0 m)
+  found_hit h = rw (← e, ← h, add-one i)
+
+  pub found_none : 0 ≡ first_from test 0 n → None ≡ found (first_from test 0 m)
+  found_none h = rw (← e, ← h)

@@ -2,5 +2,6 @@ pub mod Earlier
 pub mod Keys
 pub mod Clauses
 pub mod Signs
+pub mod Verdicts
 pub mod Whole
 pub mod Words

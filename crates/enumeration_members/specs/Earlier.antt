@@ -1,6 +1,6 @@
 -- What the check keeps of the members that it has been at: their order; for each type how many are of it, and the first that is.
-use Rattle.std.specs.Prelude.{ℕ, ◌<◌, ◌≡◌, List, ◌∷◌, eqb, length, get_or}
-use Rattle.csdl.specs.Search.{first_from, count_from}
+use Rattle.std.specs.Prelude.{ℕ, ◌<◌, ◌≡◌, List, ◌∷◌, eqb, length, get_or, Option}
+use Rattle.csdl.specs.Search.{first_from, count_from, found}
 use Rattle.csdl.specs.Members.{Members, member_text}
 use Rattle.name_classes.specs.Classes.{Sorted}
 
@@ -23,8 +23,8 @@ abbrev pub first_of : Members → ℕ → ℕ → ℕ
 first_of e n t = first_from (λ s. eqb (e.member_type s) t) 0 n
 
 -- The two lists have these numbers of each type.
-pub record Tally (e : Members) (n : ℕ) (counts firsts : List ℕ) : Type 0 where
+pub record Tally (e : Members) (n : ℕ) (counts : List ℕ) (firsts : List (Option ℕ)) : Type 0 where
   pub counts_size : length counts ≡ 64
   pub firsts_size : length firsts ≡ 64
   pub count : (t : ℕ) → t < 64 → get_or counts t 0 ≡ count_of e n t
-  pub first : (t : ℕ) → t < 64 → get_or firsts t 0 ≡ first_of e n t
+  pub first : (t : ℕ) (d : Option ℕ) → t < 64 → get_or firsts t d ≡ found (first_of e n t)

@@ -1,49 +1,70 @@
-// Members: one function for each field, over the table's part of the image; a record past the end reads as zeros.
-ghost use Rattle.std.specs.Prelude.{◌≡◌, ◌≤◌, ◌<◌};
-ghost use Rattle.csdl.specs.Members.{member_count, member_type_in, member_given_in, member_name_in, member_value_in, member_spare_in};
-ghost use Rattle.enumeration_members.specs.Limits.{FewMembers};
+// The table of members: the fields of a record by its number; a record past the end of the table reads as zeros.
+ghost use Rattle.std.specs.Prelude.{◌≡◌, ◌≤◌, ◌<◌, false};
+ghost use Rattle.csdl.specs.Later.{later_image1};
+ghost use Rattle.csdl.specs.Members as rules;
+ghost use Rattle.enumeration_members.specs.Read.{members_read};
 
-use model_image::fields::{Name, name_in};
+use crate::members::Members;
+use later_images::LaterImage;
+use model_image::fields::{Name, name_in, text_of};
 use packed::{field16, flag, word_at};
 
-// How many records the table has.
-pub(crate) fn member_count(table: &[u8]) -> u16
-    requires { FewMembers table.now }
-    ensures { (result ≡ member_count table.now) × (result ≤ 1024) }
-{
-    (table.len() / 12) as u16
-}
+impl<'a> Members<'a> {
+    // The members of an image that keeps rule 30 as a whole.
+    pub fn read(image: &LaterImage<'a>) -> Members<'a>
+        requires { (image.now.sizes.now ≡ rules.member_sizes) × (later_image1 rules.member_sizes image.now.image.now ≡ false) }
+        ensures { members_read result ≡ rules.members_in image.now.image.now }
+    {
+        Members {
+            table: image.table(0),
+            names: image.names(),
+        }
+    }
 
-pub(crate) fn member_type(table: &[u8], member: u16) -> u16
-    ensures { (result ≡ member_type_in table.now member) × (result < 64) }
-{
-    field16(table, 96 * (member as u32), 6)
-}
+    // How many there are.
+    pub fn count(&self) -> u16
+        ensures { (result ≡ (members_read self.now).count) × (result ≤ 1024) }
+    {
+        (self.table.len() / 12) as u16
+    }
 
-pub(crate) fn member_given(table: &[u8], member: u16) -> bool
-    ensures { result ≡ member_given_in table.now member }
-{
-    flag(table, 96 * (member as u32) + 6)
-}
+    pub fn member_type(&self, member: u16) -> u16
+        ensures { (result ≡ (members_read self.now).member_type member) × (result < 64) }
+    {
+        field16(self.table, 96 * (member as u32), 6)
+    }
 
-pub(crate) fn member_name(table: &[u8], member: u16) -> Name
-    ensures { (result.start ≡ (member_name_in table.now member).start) × (result.size ≡ (member_name_in table.now member).size) × (result.start < 4096) × (result.size < 256) }
-{
-    name_in(table, 96 * (member as u32) + 7)
-}
+    pub fn given(&self, member: u16) -> bool
+        ensures { result ≡ (members_read self.now).given member }
+    {
+        flag(self.table, 96 * (member as u32) + 6)
+    }
 
-// The 64 bits from the 27th of the record on, of its three words: `packed::field` at this width would be too large to be taken into its callers.
-pub(crate) fn member_value(table: &[u8], member: u16) -> u64
-    ensures { result ≡ member_value_in table.now member }
-{
-    let at = 12 * (member as usize);
-    (word_at(table, at) % 32) * 576460752303423488
-        + word_at(table, at + 4) * 134217728
-        + word_at(table, at + 8) / 32
-}
+    pub fn name(&self, member: u16) -> Name
+        ensures { (result.start ≡ ((members_read self.now).member_name member).start) × (result.size ≡ ((members_read self.now).member_name member).size) × (result.start < 4096) × (result.size < 256) }
+    {
+        name_in(self.table, 96 * (member as u32) + 7)
+    }
 
-pub(crate) fn member_spare(table: &[u8], member: u16) -> u16
-    ensures { (result ≡ member_spare_in table.now member) × (result < 32) }
-{
-    field16(table, 96 * (member as u32) + 91, 5)
+    pub fn text(&self, member: u16) -> &'a [u8]
+        ensures { result.now ≡ rules.member_text (members_read self.now) member }
+    {
+        text_of(self.names, self.name(member))
+    }
+
+    // The 64 bits from the 27th of the record on, of its three words: `packed::field` at this width would be too large to be taken into its callers.
+    pub fn value(&self, member: u16) -> u64
+        ensures { result ≡ (members_read self.now).value_field member }
+    {
+        let at = 12 * (member as usize);
+        (word_at(self.table, at) % 32) * 576460752303423488
+            + word_at(self.table, at + 4) * 134217728
+            + word_at(self.table, at + 8) / 32
+    }
+
+    pub fn spare(&self, member: u16) -> u16
+        ensures { (result ≡ (members_read self.now).member_spare member) × (result < 32) }
+    {
+        field16(self.table, 96 * (member as u32) + 91, 5)
+    }
 }

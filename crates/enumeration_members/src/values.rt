@@ -1,11 +1,12 @@
 // Values of members: numbers with a sign, in two's complement, and the ranges of the underlying types.
 ghost use Rattle.std.specs.Prelude.{◌≡◌, cond, not};
-ghost use Rattle.csdl.specs.Tables.{type_underlying};
 ghost use Rattle.csdl.specs.Members as rules;
 ghost use Rattle.csdl.specs.Members.Signed.{plus};
+ghost use Rattle.enumeration_members.specs.Read.{members_read};
+ghost use Rattle.model_image.specs.Read.{model_read};
 
-use crate::fields::{member_given, member_type, member_value};
-use model_image::types::type_underlying;
+use crate::members::Members;
+use model_image::model::Model;
 
 // Whether the number that a field means is one from -down to up.
 fn in_range(field: u64, down: u64, up: u64) -> bool
@@ -32,20 +33,20 @@ fn fits(code: u16, field: u64) -> bool
 }
 
 // A field that means the member's value: its own where it is given, else the number of earlier members of its type.
-fn value_field(table: &[u8], earlier: u16, member: u16) -> u64
-    ensures { rules.signed result ≡ cond (rules.member_given_in table.now member) (rules.signed (rules.member_value_in table.now member)) (plus earlier) }
+fn value_field(members: &Members, earlier: u16, member: u16) -> u64
+    ensures { rules.signed result ≡ cond ((members_read members.now).given member) (rules.signed ((members_read members.now).value_field member)) (plus earlier) }
 {
-    if member_given(table, member) {
-        member_value(table, member)
+    if members.given(member) {
+        members.value(member)
     } else {
         earlier as u64
     }
 }
 
 // 31c: the member's value is none of the underlying type.
-pub(crate) fn misfits(types: &[u8], table: &[u8], earlier: u16, member: u16) -> bool
-    ensures { result ≡ not (rules.fits (type_underlying types.now (rules.member_type_in table.now member)) (cond (rules.member_given_in table.now member) (rules.signed (rules.member_value_in table.now member)) (plus earlier))) }
+pub(crate) fn misfits(model: &Model, members: &Members, earlier: u16, member: u16) -> bool
+    ensures { result ≡ not (rules.fits ((model_read model.now).underlying ((members_read members.now).member_type member)) (cond ((members_read members.now).given member) (rules.signed ((members_read members.now).value_field member)) (plus earlier))) }
 {
-    let code = type_underlying(types, member_type(table, member));
-    !fits(code, value_field(table, earlier, member))
+    let code = model.type_underlying(members.member_type(member));
+    !fits(code, value_field(members, earlier, member))
 }

@@ -1,172 +1,128 @@
-// Records in words: what a record is and its number, its name, and what it belongs to. `at` is the layout of the image; `names` are
-// its name bytes, or no bytes where they cannot be read.
-ghost use Rattle.model_image.specs.Laid.{Laid};
-ghost use Rattle.model_image.specs.Limits.{FewTypes};
-
+// Records in words: what a record is and its number, its name, and what it belongs to.
 use crate::print::{Output, joined, named, numbered, text};
 use csdl::Record;
-use model_image::bindings::binding_child;
-use model_image::children::{child_count, child_singleton, child_type};
-use model_image::constraints::constraint_property;
-use model_image::keys::key_owner;
-use model_image::layout::{
-    Layout, bindings_of, children_of, constraints_of, keys_of, properties_of, record_at,
-    schemas_of, segments_of, types_of,
-};
-use model_image::properties::{property_count, property_navigation, property_owner};
-use model_image::schemas::schema_count;
-use model_image::segments::segment_cast;
-use model_image::texts::{child_text, namespace_text, property_text, type_text};
-use model_image::types::{type_count, type_kind, type_schema};
+use model_image::fields::text_of;
+use model_image::model::Model;
+use model_image::places::Places;
+
+// An image that keeps rule 1, and what is in it; `names` has its name bytes, or no bytes where they cannot be read.
+#[derive(Clone, Copy)]
+pub struct Subject<'a> {
+    pub image: &'a [u8],
+    pub model: Model<'a>,
+    pub places: Places,
+    pub names: &'a [u8],
+}
 
 // The record at a place, as `property 3 Label of entity type 1 Stop`.
-pub fn record(rt: &impl Output, image: &[u8], at: Layout, names: &[u8], place: u16)
-    requires { Laid image.now at }
-{
-    let rec = record_at(at, place);
-    head(rt, image, at, rec);
-    named(rt, model_naming::name_record(image, place as u32));
-    let owner = owner_of(image, at, rec);
-    if let Record::Nowhere = owner {
-        return;
+pub fn record(rt: &impl Output, of: &Subject, place: u16) {
+    let rec = of.places.record_at(place);
+    head(rt, &of.model, rec);
+    named(rt, model_naming::name_record(of.image, place as u32));
+    if let Some(owner) = owner_of(&of.model, rec) {
+        text(rt, b" of ");
+        in_words(rt, of, owner);
     }
-    text(rt, b" of ");
-    in_words(rt, image, at, names, owner);
 }
 
 // A schema, type, property or child, as `entity type 1 Stop` or `navigation property 4 Stop/Next`.
-pub fn in_words(rt: &impl Output, image: &[u8], at: Layout, names: &[u8], rec: Record)
-    requires { Laid image.now at }
-{
-    head(rt, image, at, rec);
+pub fn in_words(rt: &impl Output, of: &Subject, rec: Record) {
+    let model = &of.model;
+    head(rt, model, rec);
     match rec {
-        Record::OfSchema(s) => named(rt, namespace_text(schemas_of(image, at), names, s)),
-        Record::OfType(t) => named(rt, type_text(types_of(image, at), names, t)),
-        Record::OfProperty(p) => named_within(rt, image, at, names, p),
-        Record::OfChild(h) => named(rt, child_text(children_of(image, at), names, h)),
+        Record::OfSchema(s) => named(rt, text_of(of.names, model.schema_namespace(s))),
+        Record::OfType(t) => named(rt, text_of(of.names, model.type_name(t))),
+        Record::OfProperty(p) => named_within(rt, of, p),
+        Record::OfChild(h) => named(rt, text_of(of.names, model.child_name(h))),
         _ => {}
     }
 }
 
 // The name of a property behind that of its owner.
-fn named_within(rt: &impl Output, image: &[u8], at: Layout, names: &[u8], p: u16)
-    requires { Laid image.now at }
-{
-    let properties = properties_of(image, at);
+fn named_within(rt: &impl Output, of: &Subject, p: u16) {
+    let model = &of.model;
     named(
         rt,
-        type_text(types_of(image, at), names, property_owner(properties, p)),
+        text_of(of.names, model.type_name(model.property_owner(p))),
     );
-    joined(rt, b"/", property_text(properties, names, p));
+    joined(rt, b"/", text_of(of.names, model.property_name(p)));
 }
 
-// The record that a record belongs to, or nowhere.
-fn owner_of(image: &[u8], at: Layout, rec: Record) -> Record
-    requires { Laid image.now at }
-{
+// The record that a record belongs to, if it does to one.
+fn owner_of(model: &Model, rec: Record) -> Option<Record> {
     match rec {
-        Record::OfType(t) => Record::OfSchema(type_schema(types_of(image, at), t)),
-        Record::OfProperty(p) => Record::OfType(property_owner(properties_of(image, at), p)),
-        Record::OfKey(k) => Record::OfType(key_owner(keys_of(image, at), k)),
-        Record::OfConstraint(c) => Record::OfProperty(constraint_property(
-            constraints_of(image, at),
-            c,
-        )),
-        Record::OfChild(h) => Record::OfType(child_type(children_of(image, at), h)),
-        Record::OfBinding(b) => Record::OfChild(binding_child(bindings_of(image, at), b)),
-        _ => Record::Nowhere,
+        Record::OfType(t) => Some(Record::OfSchema(model.type_schema(t))),
+        Record::OfProperty(p) => Some(Record::OfType(model.property_owner(p))),
+        Record::OfKey(k) => Some(Record::OfType(model.key_owner(k))),
+        Record::OfConstraint(c) => Some(Record::OfProperty(model.constraint_property(c))),
+        Record::OfChild(h) => Some(Record::OfType(model.child_type(h))),
+        Record::OfBinding(b) => Some(Record::OfChild(model.binding_child(b))),
+        _ => None,
     }
 }
 
 // What a record is, and its number.
-fn head(rt: &impl Output, image: &[u8], at: Layout, rec: Record)
-    requires { Laid image.now at }
-{
+fn head(rt: &impl Output, model: &Model, rec: Record) {
     match rec {
-        Record::OfSchema(s) => schema_head(rt, image, at, s),
-        Record::OfType(t) => type_head(rt, image, at, t),
-        Record::OfProperty(p) => property_head(rt, image, at, p),
-        Record::OfKey(k) => plain_head(rt, 0, k),
-        Record::OfConstraint(c) => plain_head(rt, 1, c),
-        Record::OfChild(h) => child_head(rt, image, at, h),
-        Record::OfBinding(b) => plain_head(rt, 2, b),
-        Record::OfSegment(g) => segment_head(rt, image, at, g),
+        Record::OfSchema(s) => schema_head(rt, model, s),
+        Record::OfType(t) => type_head(rt, model, t),
+        Record::OfProperty(p) => property_head(rt, model, p),
+        Record::OfKey(k) => numbered(rt, b"key ", k),
+        Record::OfConstraint(c) => numbered(rt, b"constraint ", c),
+        Record::OfChild(h) => child_head(rt, model, h),
+        Record::OfBinding(b) => numbered(rt, b"binding ", b),
+        Record::OfSegment(g) => segment_head(rt, model, g),
         Record::Nowhere => text(rt, b"no record"),
     }
 }
 
-// A record of a table that has one word.
-fn plain_head(rt: &impl Output, k: u16, n: u16) {
-    numbered(rt, b"key |constraint |binding ", k, n);
-}
-
-fn schema_head(rt: &impl Output, image: &[u8], at: Layout, s: u16)
-    requires { Laid image.now at }
-{
-    let k = word_of(schema_count(schemas_of(image, at)), s, false);
-    numbered(rt, b"missing schema |schema ", k, s);
-}
-
-fn type_head(rt: &impl Output, image: &[u8], at: Layout, t: u16)
-    requires { Laid image.now at }
-{
-    numbered(
-        rt,
-        b"missing type |entity type |complex type |enumeration type |type definition |type of no kind ",
-        type_word(types_of(image, at), t),
-        t,
-    );
-}
-
-// 0 where there is no such type, or else 1 more than its kind.
-fn type_word(types: &[u8], t: u16) -> u16
-    requires { FewTypes types.now }
-{
-    if type_count(types) <= t {
-        return 0;
+fn schema_head(rt: &impl Output, model: &Model, s: u16) {
+    if s < model.schema_count() {
+        numbered(rt, b"schema ", s);
+    } else {
+        numbered(rt, b"missing schema ", s);
     }
-    1 + type_kind(types, t)
 }
 
-fn property_head(rt: &impl Output, image: &[u8], at: Layout, p: u16)
-    requires { Laid image.now at }
-{
-    let properties = properties_of(image, at);
-    let k = word_of(
-        property_count(properties),
-        p,
-        property_navigation(properties, p),
-    );
-    numbered(
-        rt,
-        b"missing property |property |navigation property ",
-        k,
-        p,
-    );
-}
-
-fn child_head(rt: &impl Output, image: &[u8], at: Layout, h: u16)
-    requires { Laid image.now at }
-{
-    let children = children_of(image, at);
-    let k = word_of(child_count(children), h, child_singleton(children, h));
-    numbered(rt, b"missing child |entity set |singleton ", k, h);
-}
-
-// The word for record n of `count`: 0 where there is none, or else 1, or 2 where its flag is set.
-fn word_of(count: u16, n: u16, flag: bool) -> u16 {
-    if count <= n {
-        return 0;
+// By the number of the kind: while rule 4 is broken it may be none of the four.
+fn type_head(rt: &impl Output, model: &Model, t: u16) {
+    if t >= model.type_count() {
+        numbered(rt, b"missing type ", t);
+        return;
     }
-    if flag {
-        return 2;
+    match model.type_kind(t) {
+        0 => numbered(rt, b"entity type ", t),
+        1 => numbered(rt, b"complex type ", t),
+        2 => numbered(rt, b"enumeration type ", t),
+        3 => numbered(rt, b"type definition ", t),
+        _ => numbered(rt, b"type of no kind ", t),
     }
-    1
 }
 
-fn segment_head(rt: &impl Output, image: &[u8], at: Layout, g: u16)
-    requires { Laid image.now at }
-{
-    let k = segment_cast(segments_of(image, at), g) as u16;
-    numbered(rt, b"segment |cast segment ", k, g);
+fn property_head(rt: &impl Output, model: &Model, p: u16) {
+    if p >= model.property_count() {
+        numbered(rt, b"missing property ", p);
+    } else if model.property_navigation(p) {
+        numbered(rt, b"navigation property ", p);
+    } else {
+        numbered(rt, b"property ", p);
+    }
+}
+
+fn child_head(rt: &impl Output, model: &Model, h: u16) {
+    if h >= model.child_count() {
+        numbered(rt, b"missing child ", h);
+    } else if model.child_singleton(h) {
+        numbered(rt, b"singleton ", h);
+    } else {
+        numbered(rt, b"entity set ", h);
+    }
+}
+
+fn segment_head(rt: &impl Output, model: &Model, g: u16) {
+    if model.segment_cast(g) {
+        numbered(rt, b"cast segment ", g);
+    } else {
+        numbered(rt, b"segment ", g);
+    }
 }

@@ -1,55 +1,43 @@
 // A refusal by rules 3 to 19 in words: the record, the paths that have it if it is a segment, the rule and the section.
-ghost use Rattle.model_image.specs.Laid.{Laid};
-
-use crate::description::record;
+use crate::description::{Subject, record};
 use crate::paths::heading;
 use crate::print::{Output, line_end, text};
 use crate::rulebook;
-use csdl::{PathKind, Record};
-use model_image::layout::{Layout, names_of, record_at};
-use path_kinds::in_image::{holders_in, path_in};
-use path_kinds::kinds::kind_at;
+use csdl::{PathKind, Record, Refusal};
+use path_kinds::kinds::{KINDS, holder_count, path_of};
 
-pub fn explain(rt: &impl Output, image: &[u8], at: Layout, rule: u16, place: u16)
-    requires { Laid image.now at }
-{
+pub fn explain(rt: &impl Output, of: &Subject, refusal: Refusal) {
     text(rt, b"record   ");
-    if rule < 6 {
-        without_names(rt, image, at, place);
+    if refusal.rule < 6 {
+        without_names(rt, of, refusal.place);
     } else {
-        with_names(rt, image, at, place);
+        with_names(rt, of, refusal.place);
     }
-    rulebook::explain(rt, rule);
+    rulebook::explain(rt, refusal.rule);
 }
 
 // The record at fault while rule 3, 4 or 5 is broken.
-fn without_names(rt: &impl Output, image: &[u8], at: Layout, place: u16)
-    requires { Laid image.now at }
-{
-    record(rt, image, at, b"", place);
+fn without_names(rt: &impl Output, of: &Subject, place: u16) {
+    let mut nameless = *of;
+    nameless.names = b"";
+    record(rt, &nameless, place);
     text(rt, b"\nnames    not read while rule 3, 4 or 5 is broken\n");
 }
 
 // The same where they are unbroken, so that what is printed of names is letters, digits, underscores and dots.
-fn with_names(rt: &impl Output, image: &[u8], at: Layout, place: u16)
-    requires { Laid image.now at }
-{
-    record(rt, image, at, names_of(image, at), place);
+fn with_names(rt: &impl Output, of: &Subject, place: u16) {
+    record(rt, of, place);
     line_end(rt);
-    let rec = record_at(at, place);
-    match rec {
-        Record::OfSegment(g) => paths_with(rt, image, at, g),
-        _ => {}
+    if let Record::OfSegment(g) = of.places.record_at(place) {
+        paths_with(rt, of, g);
     }
 }
 
 // The paths that have a segment: none, or the first two.
-fn paths_with(rt: &impl Output, image: &[u8], at: Layout, g: u16)
-    requires { Laid image.now at }
-{
+fn paths_with(rt: &impl Output, of: &Subject, g: u16) {
     let mut left: u16 = 2;
-    for n in 0..6 {
-        left = kind_with(rt, image, at, kind_at(n), g, left);
+    for kind in KINDS {
+        left = kind_with(rt, of, kind, g, left);
     }
     if left == 2 {
         text(rt, b"path     none\n");
@@ -57,39 +45,24 @@ fn paths_with(rt: &impl Output, image: &[u8], at: Layout, g: u16)
 }
 
 // The same of one kind, `left` at most; answers how many are left.
-fn kind_with(rt: &impl Output, image: &[u8], at: Layout, kind: PathKind, g: u16, left: u16) -> u16
-    requires { Laid image.now at }
-{
-    let n = holders_in(image, at, kind);
+fn kind_with(rt: &impl Output, of: &Subject, kind: PathKind, g: u16, left: u16) -> u16 {
     let mut more = left;
-    for r in 0..n {
-        more = path_with(rt, image, at, kind, r, g, more);
+    for r in 0..holder_count(&of.model, kind) {
+        more = path_with(rt, of, kind, r, g, more);
     }
     more
 }
 
-fn path_with(
-    rt: &impl Output,
-    image: &[u8],
-    at: Layout,
-    kind: PathKind,
-    r: u16,
-    g: u16,
-    left: u16,
-) -> u16
-    requires { Laid image.now at }
-{
+fn path_with(rt: &impl Output, of: &Subject, kind: PathKind, r: u16, g: u16, left: u16) -> u16 {
     if left == 0 {
         return 0;
     }
-    let run = path_in(image, at, kind, r);
-    let first = run.first;
-    let count = run.count;
-    if (g < first) | (first + count <= g) {
+    let run = path_of(&of.model, kind, r);
+    if (g < run.first) | (run.first + run.count <= g) {
         return left;
     }
     text(rt, b"path     ");
-    heading(rt, image, at, kind, r);
+    heading(rt, of, kind, r);
     line_end(rt);
     left - 1
 }

@@ -1,8 +1,8 @@
-// The images that a program is given: on standard input, or in the files that its arguments name. What cannot be opened or read is named
-// on standard error, with the reason. No contract can say which bytes are read; these say that the sizes count bytes of the arrays.
+// The images that a program is given: on standard input, or in the files that its arguments name. What cannot be opened, read or written is
+// named on standard error, with the reason. No contract can say which bytes are read; these say that the sizes count bytes of the arrays.
 #![tactic(auto)]
 
-ghost use Rattle.std.specs.Prelude.{◌≡◌, ◌≤◌, length, take, IfOk};
+ghost use Rattle.std.specs.Prelude.{◌≡◌, ◌≤◌, length, take, IfOk, IfSome};
 
 use std::env::FillError;
 use std::io::{ErrorKind, Read};
@@ -14,26 +14,6 @@ pub const IMAGE_SIZE: usize = 13349;
 
 // The bytes of the longest path of the system, with the 0 that ends it.
 pub const NAME_SIZE: usize = 4096;
-
-// What was read: how many bytes, if every read succeeded.
-#[derive(Clone, Copy)]
-pub struct Input {
-    pub whole: bool,
-    pub size: usize,
-}
-
-// The same of a file, with the length of its name.
-#[derive(Clone, Copy)]
-pub struct Named {
-    pub whole: bool,
-    pub size: usize,
-    pub name: usize,
-}
-
-const UNREAD: Input = Input {
-    whole: false,
-    size: 0,
-};
 
 // The numbers of two errors, as the system has them.
 const INVALID_ARGUMENT: i32 = 22;
@@ -71,35 +51,48 @@ fn read_some(from: &mut impl Read, image: &mut [u8]) -> io::Result<usize>
     from.read(image)
 }
 
-// Reads until the array is full or the input ends.
-fn read_all(from: &mut impl Read, image: &mut [u8]) -> io::Result<usize>
-    ensures { IfOk result (λ n. n ≤ length image.new) }
-{
-    let mut done: usize = 0;
-    while done < image.len() {
-        let more = read_some(from, &mut image[done..])?;
-        if more == 0 {
-            return Ok(done);
-        }
-        done += more;
-    }
-    Ok(done)
+// How many bytes an array was given, and how the last read went.
+#[derive(Drop)]
+pub struct Filled {
+    pub size: usize,
+    pub end: io::Result<()>,
 }
 
-// Reads an image; `name` is what a failure names.
+// Fills the array from its start until it is full, the input ends or a read fails: no method of the library takes less than there is room for.
+pub fn fill(from: &mut impl Read, image: &mut [u8]) -> Filled
+    ensures { (result.size ≤ length image.new) × (result.size ≡ length (take result.size image.new)) }
+{
+    let mut size: usize = 0;
+    while size < image.len() {
+        match read_some(from, &mut image[size..]) {
+            Ok(0) => break,
+            Ok(more) => size += more,
+            Err(error) => {
+                return Filled {
+                    size,
+                    end: Err(error),
+                };
+            }
+        }
+    }
+    Filled { size, end: Ok(()) }
+}
+
+// Reads an image, if every read succeeds: how many bytes it has. `name` is what a failure names.
 pub fn read_image(
     rt: &(impl Eprint + Alloc),
     from: &mut impl Read,
     name: &[u8],
     image: &mut [u8; IMAGE_SIZE],
-) -> Input
-    ensures { (result.size ≤ length image.new) × (result.size ≡ length (take result.size image.new)) }
+) -> Option<usize>
+    ensures { IfSome result (λ n. (n ≤ length image.new) × (n ≡ length (take n image.new))) }
 {
-    match read_all(from, image) {
-        Ok(size) => Input { whole: true, size },
+    let filled = fill(from, image);
+    match filled.end {
+        Ok(()) => Some(filled.size),
         Err(error) => {
             fail(rt, name, error);
-            UNREAD
+            None
         }
     }
 }
@@ -117,53 +110,36 @@ fn read_named(
     rt: &(impl Eprint + Alloc + io::Input + Files),
     name: &[u8],
     image: &mut [u8; IMAGE_SIZE],
-) -> Input
-    ensures { (result.size ≤ length image.new) × (result.size ≡ length (take result.size image.new)) }
+) -> Option<usize>
+    ensures { IfSome result (λ n. (n ≤ length image.new) × (n ≡ length (take n image.new))) }
 {
-    if packed::same_bytes(name, b"-") {
+    if name == b"-".as_slice() {
         return read_image(rt, &mut rt.reader(), b"standard input", image);
     }
     match open(rt, name) {
         Ok(mut file) => read_image(rt, &mut file, name, image),
         Err(error) => {
             fail(rt, name, error);
-            UNREAD
+            None
         }
     }
 }
 
 // Whether the program was given an argument i.
-pub fn has_argument(rt: &impl Env, i: usize) -> bool {
+fn has_argument(rt: &impl Env, i: usize) -> bool {
     let mut name = [0u8; 1];
     !matches!(rt.arg(i, &mut name), Err(FillError::NotPresent))
 }
 
-// Reads the image that argument i names.
-pub fn read_argument(
-    rt: &(impl Eprint + Alloc + io::Input + Files + Env),
-    i: usize,
-    name: &mut [u8],
-    image: &mut [u8; IMAGE_SIZE],
-) -> Named
-    ensures size_in_bounds { (result.size ≤ length image.new) × (result.size ≡ length (take result.size image.new)) }
-    ensures name_in_bounds { (result.name ≤ length name.new) × (result.name ≡ length (take result.name name.new)) }
+// Argument i, if it can be had: how many bytes it has.
+fn argument(rt: &(impl Eprint + Alloc + Env), i: usize, name: &mut [u8]) -> Option<usize>
+    ensures { IfSome result (λ n. (n ≤ length name.new) × (n ≡ length (take n name.new))) }
 {
     match rt.arg(i, name) {
-        Ok(n) => {
-            let r = read_named(rt, &name[..n], image);
-            Named {
-                whole: r.whole,
-                size: r.size,
-                name: n,
-            }
-        }
+        Ok(n) => Some(n),
         Err(error) => {
             fail(rt, b"argument", of_argument(error));
-            Named {
-                whole: false,
-                size: 0,
-                name: 0,
-            }
+            None
         }
     }
 }
@@ -173,5 +149,73 @@ fn of_argument(error: FillError) -> io::Error {
     match error {
         FillError::NotPresent => io::Error::from_raw_os_error(INVALID_ARGUMENT),
         FillError::TooLong => io::Error::from_raw_os_error(NAME_TOO_LONG),
+    }
+}
+
+// Writes the bytes, in one call where the system takes them all, and answers whether it did; a failure is named on standard error.
+pub fn written(rt: &(impl Print + Eprint + Alloc), text: &[u8]) -> bool {
+    match rt.write_all(text) {
+        Ok(()) => true,
+        Err(error) => {
+            fail(rt, b"standard output", error);
+            false
+        }
+    }
+}
+
+// The line above what is shown of an image, if there are several.
+fn heading(rt: &(impl Print + Eprint + Alloc), name: &[u8], several: bool) -> bool {
+    !several || written(rt, b"== ") && written(rt, name) && written(rt, b"\n")
+}
+
+// Shows the image on standard input.
+fn show_input<R: Eprint + Alloc + io::Input, F: Fn(&[u8], bool)>(rt: &R, show: &F)
+    requires { F.IsAlwaysCallable show.now }
+{
+    let mut image = [0u8; IMAGE_SIZE];
+    if let Some(n) = read_image(rt, &mut rt.reader(), b"standard input", &mut image) {
+        show(&image[..n], false);
+    }
+}
+
+// Shows the image that argument i names, under its heading. What cannot be read is not shown.
+fn show_argument<R: Print + Eprint + Alloc + io::Input + Files + Env, F: Fn(&[u8], bool)>(
+    rt: &R,
+    i: usize,
+    several: bool,
+    show: &F,
+)
+    requires { F.IsAlwaysCallable show.now }
+{
+    let mut name = [0u8; NAME_SIZE];
+    let Some(k) = argument(rt, i, &mut name) else {
+        return;
+    };
+    let mut image = [0u8; IMAGE_SIZE];
+    let Some(n) = read_named(rt, &name[..k], &mut image) else {
+        return;
+    };
+    if heading(rt, &name[..k], several) {
+        show(&image[..n], several);
+    }
+}
+
+// Shows the image on standard input, or that in each file that an argument names; `show` is told whether there are several.
+pub fn for_each_image<R: Print + Eprint + Alloc + io::Input + Files + Env, F: Fn(&[u8], bool)>(
+    rt: &R,
+    show: F,
+)
+    requires { F.IsAlwaysCallable show }
+{
+    if !has_argument(rt, 1) {
+        show_input(rt, &show);
+        return;
+    }
+    let several = has_argument(rt, 2);
+    for i in 1..usize::MAX {
+        if !has_argument(rt, i) {
+            break;
+        }
+        show_argument(rt, i, several, &show);
     }
 }

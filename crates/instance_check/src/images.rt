@@ -1,25 +1,30 @@
-// Rules 20 to 26 over whole images.
-ghost use Rattle.std.specs.Prelude.{◌≡◌, [], ◌∷◌, false};
-ghost use Rattle.csdl.specs.Image as images;
-ghost use Rattle.csdl.specs.Instance.{instance_in, image20, instance_places};
+// Rules 20 to 26 over the image of an instance.
+ghost use Rattle.std.specs.Prelude.{◌≡◌, [], ◌∷◌, IfOk};
 ghost use Rattle.csdl.specs.Conforms.{instance_stages};
-ghost use Rattle.csdl.specs.Verdict.{instance_means, verdict};
-ghost use Rattle.csdl.specs.Verdict.Answer.{accepted};
+ghost use Rattle.csdl.specs.Instance.{instance_in, image20, instance_places};
+ghost use Rattle.csdl.specs.Verdict.{verdict};
 ghost use Rattle.csdl.specs.Verdict.Stage.{whole};
+ghost use Rattle.instance_image.specs.Read.{instance_read};
+ghost use Rattle.model_image.specs.Read.{model_read};
+ghost use Rattle.model_rules.specs.Stages.{ResultOf};
 
-use crate::rules::first_broken;
-use csdl::InstanceAnswer;
+use crate::rules::check_21_to_26;
+use csdl::Refusal;
 use instance_image::image::bad_instance;
+use instance_image::instance::Instance;
+use model_image::model::Model;
 
-// Rules 20 to 26, of an instance of a model that keeps rule 1. Its tables are not to lie on the stack beside those of the rules of the model.
-#[tactic(auto, unfolding(csdl::specs::Verdict::verdict, csdl::specs::Verdict::instance_means))]
+// The instance of the image. The tables of its rules are not to lie on the stack beside those of the rules of the model.
+#[tactic(auto, unfolding(csdl::specs::Verdict::verdict))]
 #[inline(never)]
-pub(crate) fn check_20_to_26(model: &[u8], instance: &[u8]) -> InstanceAnswer
-    requires { images.image1 model.now ≡ false }
-    ensures { instance_means result ≡ verdict 0 (whole 20 (image20 instance.now) ∷ []) (verdict (instance_places (instance_in instance.now)) (instance_stages (images.model_in model.now) (instance_in instance.now)) (accepted [])) }
+pub(crate) fn check_20_to_26<'a>(model: &Model, image: &'a [u8]) -> Result<Instance<'a>, Refusal>
+    ensures value { ResultOf result (λ o. verdict 0 (whole 20 (image20 image.now) ∷ []) (verdict (instance_places (instance_in image.now)) (instance_stages (model_read model.now) (instance_in image.now)) o)) }
+    ensures instance { IfOk result (λ i. instance_read i ≡ instance_in image.now) }
 {
-    if bad_instance(instance) {
-        return InstanceAnswer::Refused { rule: 20, place: 0 };
+    if bad_instance(image) {
+        return Err(Refusal { rule: 20, place: 0 });
     }
-    first_broken(model, instance)
+    let instance = Instance::read(image);
+    check_21_to_26(model, &instance)?;
+    Ok(instance)
 }

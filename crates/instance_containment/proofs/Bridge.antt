@@ -2,25 +2,25 @@
 use Prim.Native.Nat.{ℕ, zero, suc, zero-le, ◌+◌, ◌≤◌, ◌<◌}
 use mathlib.Core.Path.{◌≡◌, refl, sym, ap, ap₂, ◌∙◌}
 use mathlib.Core.Bool.{Bool, true, false, cond, not, ◌&&◌, ◌||◌, and-true, and-false}
-use mathlib.Core.List.{List, []}
+use mathlib.Core.List.{List}
 use native.Mathlib.Omega.{arith}
 use lib.Dec.{eqb, ltb, eqb-zero-suc, eqb-suc-suc}
 use lib.ListN.{length, get_or, get_or-eq_default}
 use borrow.Author.Tests.{ltb-true, ltb-false, ne_eqb, le-ltb, lt-ltb}
-use Rattle.csdl.specs.Search.{first_from, count_from, if_found}
-use Rattle.csdl.specs.Model.{Model, model_of, in_run}
-use Rattle.csdl.specs.Find.{integral}
+use Rattle.std.proofs.Common.{MatchOption}
+use Rattle.csdl.specs.Search.{first_from, count_from, if_found, found}
+use Rattle.csdl.specs.Model.{Model, in_run}
 use Rattle.csdl.specs.Instance.{Instance, instance_of}
-use Rattle.csdl.specs.Conforms.{is_null, item_property, integral_item, node_of_item, node_of_slot, holds_item, holds_node, node26}
-use Rattle.instance_runs.specs.Tables.{Tabulates, to_two}
+use Rattle.csdl.specs.Conforms.{is_null, integral_item, node_of_item, node_of_slot, holds_item, holds_node, node26}
+use Rattle.instance_runs.specs.Tables.{Tabulates, left_by, to_two}
 use Rattle.csdl.proofs.Logic.{any_same, count_same, first-same, first-le}
 use Rattle.csdl.proofs.Reaching.{reaches_same}
 use Rattle.csdl.specs.Conforms.{slot_of_item}
-use Rattle.csdl.specs.Instance.{slot_count, node_count}
+use Rattle.instance_image.specs.declared.instance.Instance as instances
+use Rattle.instance_image.specs.Read.{instance_read}
 use lib.ListN.{set}
 use lib.Seq.{get_or-set_same, get_or-set_other}
 use borrow.Author.Count.{below_more}
-use Rattle.instance_runs.proofs.Fills.{latest}
 use Rattle.instance_containment.proofs.Climbing.{run_any}
 use Rattle.instance_containment.specs.Graph.{held_if, held_by, node_in, step_in, times_in, holder_from, within_in, node26_in, held_run}
 
@@ -98,8 +98,8 @@ unfolding times_in
 times_run to c w =
     ap to_two (sym (count_same (λ u. in_run (held_run to u) w) (λ u. eqb (to u) (suc w)) 0 c (λ u p q. run_any (to u) w)))
 
-pub holder_run : (from to : ℕ → ℕ) (w n i : ℕ) → holder_from from to w i n ≡ latest (λ u. held_run to u) (λ u. from u) w i n
-unfolding holder_from latest
+pub holder_run : (from to : ℕ → ℕ) (w n i : ℕ) → holder_from from to w i n ≡ left_by (λ u. held_run to u) (λ u x. from u) w i n
+unfolding holder_from left_by
 holder_run from to w zero i = refl
 holder_run from to w (suc n) i = rw (holder_run from to w n (i + 1), run_any (to i) w)
 
@@ -110,13 +110,14 @@ fill_more f l i x h e all =
     (λ k lt. get_or-set_other l i k x 0 (λ q. let z : k ≡ i = q in omega arith) ∙ all k lt)
     (get_or-set_same l i x 0 h ∙ e)
 
--- The slot of an item is within the array of slots.
-slot-below : (slots : List ℕ) (k : ℕ) → length slots ≤ 5120 → slot_of_item (instance_of [] slots []) k ≤ 1024
-unfolding instance_of slot_of_item
-slot-below slots k h =
-    let i = instance_of [] slots [] in
-    let l : first_from (λ s. in_run (i.slot_items s) k) 0 (slot_count slots) ≤ 0 + slot_count slots = first-le (λ s. in_run (i.slot_items s) k) 0 (slot_count slots) in
-    omega (arith, l)
+-- An instance has no more slots and items than its limits.
+pub few_slots : (instance : instances.Instance) → (instance_read instance).slots ≤ 1024
+unfolding instance_read instance_of
+few_slots instance = omega (arith, instance.few_slots)
+
+pub few_items : (instance : instances.Instance) → (instance_read instance).items ≤ 2048
+unfolding instance_read instance_of
+few_items instance = omega (arith, instance.few_items)
 
 -- What is made of a number, if there is one, by what agrees below n.
 found_same : (f g : ℕ → ℕ) (n x : ℕ) → x ≤ n → ((s : ℕ) → s < n → f s ≡ g s) → if_found 0 f x ≡ if_found 0 g x
@@ -124,27 +125,29 @@ found_same f g n zero h e = refl
 found_same f g n (suc s) h e = e s (omega arith)
 
 -- The node of an item, by the array of slots and the array of nodes.
-module _ (nodes slots item-slots slot-nodes : List ℕ) (few : length slots ≤ 5120)
-    (o : Tabulates (λ k. slot_of_item (instance_of [] slots []) k) 2048 item-slots) (h : Tabulates (λ s. node_of_slot (instance_of nodes [] []) s) 1024 slot-nodes) where
-  pub node_in_same : (k : ℕ) → k < 2048 → node_in item-slots slot-nodes k ≡ node_of_item (instance_of nodes slots []) k
-  unfolding node_in instance_of slot_of_item node_of_slot
+module _ (i : Instance) (few : i.slots ≤ 1024) (item-slots slot-nodes : List ℕ) (o : Tabulates (λ k. slot_of_item i k) 2048 item-slots)
+    (h : Tabulates (λ s. node_of_slot i s) 1024 slot-nodes) where
+  slot-below : (k : ℕ) → slot_of_item i k ≤ 1024
+  unfolding slot_of_item
+  slot-below k =
+      let l : first_from (λ s. in_run (i.slot_items s) k) 0 i.slots ≤ 0 + i.slots = first-le (λ s. in_run (i.slot_items s) k) 0 i.slots in
+      omega (arith, l)
+
+  pub node_in_same : (k : ℕ) → k < 2048 → node_in item-slots slot-nodes k ≡ node_of_item i k
+  unfolding node_in
   node_in_same k l =
       rw (o.at k l)
-      (found_same (λ s. get_or slot-nodes s 0) (λ s. node_of_slot (instance_of nodes [] []) s) 1024 (slot_of_item (instance_of [] slots []) k) (slot-below slots k few) h.at)
+      (found_same (λ s. get_or slot-nodes s 0) (λ s. node_of_slot i s) 1024 (slot_of_item i k) (slot-below k) h.at)
 
-  pub node_in_le : (k : ℕ) → node_in item-slots slot-nodes k ≤ node_count nodes
-  unfolding node_in instance_of
+  pub node_in_le : (k : ℕ) → node_in item-slots slot-nodes k ≤ i.nodes
+  unfolding node_in
   node_in_le k = go (get_or item-slots k 0)
     where
-      go : (x : ℕ) → if_found 0 (λ s. get_or slot-nodes s 0) x ≤ node_count nodes
+      go : (x : ℕ) → if_found 0 (λ s. get_or slot-nodes s 0) x ≤ i.nodes
       go zero = zero-le
-      go (suc s) =
-          all-le (λ s. node_of_slot (instance_of nodes [] []) s) 1024 (node_count nodes) slot-nodes h (λ s. node_of_slot-le (instance_of nodes [] []) s) s
+      go (suc s) = all-le (λ s. node_of_slot i s) 1024 i.nodes slot-nodes h (λ s. node_of_slot-le i s) s
 
--- The node that an item holds, by its property and by the tables that each test reads.
-pub held_same_tables : (types properties nodes slots items : List ℕ) (inside : Bool) (property k r : ℕ) → r ≡ held_if (instance_of nodes [] items) inside k
-    → inside ≡ if_found false (λ p. integral (model_of [] types properties [] [] [] [] [] []) p) property
-    → property ≡ item_property (instance_of [] slots []) k
-    → r ≡ held_by (model_of [] types properties [] [] [] [] [] []) (instance_of nodes slots items) k
-unfolding held_by held_if instance_of is_null slot_of_item
-held_same_tables types properties nodes slots items inside property k r e f g = e ∙ rw (f, g)
+-- An entry and the number that it is for.
+pub entry_found : (n x : ℕ) → MatchOption (found x) (n ≡ 0) (λ w. n ≡ suc w) → n ≡ x
+entry_found n zero h = h
+entry_found n (suc w) h = h

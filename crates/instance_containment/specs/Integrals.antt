@@ -1,10 +1,9 @@
 -- The properties of a model whose items are integral, as a set.
-use Rattle.std.specs.Prelude.{ℕ, ◌≡◌, ◌&&◌, List, [], ltb, length}
-use Rattle.csdl.specs.Tables.{property_count}
-use Rattle.csdl.specs.Model.{model_of}
+use Rattle.std.specs.Prelude.{ℕ, ◌≡◌, ◌&&◌, List, ltb, length}
+use Rattle.csdl.specs.Model.{Model}
 use Rattle.csdl.specs.Find.{integral}
 use Rattle.type_names.specs.Wide.{MembersWide}
 
-pub record Integrals (types properties set : List ℕ) : Type 0 where
+pub record Integrals (m : Model) (set : List ℕ) : Type 0 where
   pub size : length set ≡ 8
-  pub is : MembersWide set 0 (λ p. ltb p (property_count properties) && integral (model_of [] types properties [] [] [] [] [] []) p)
+  pub is : MembersWide set 0 (λ p. ltb p m.properties && integral m p)

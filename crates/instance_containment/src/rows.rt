@@ -1,7 +1,7 @@
 // Which node is within which, over rows of bits: row v has the nodes that v holds. Every row goes through one node after the other: once it
 // has gone through those below c, row v has what lies within v through nodes below c.
-ghost use Rattle.std.specs.Prelude.{◌≡◌, ◌||◌, ◌≤◌, ◌<◌, ltb, length, get_or};
-ghost use Rattle.csdl.specs.Search.{first_from};
+ghost use Rattle.std.specs.Prelude.{◌≡◌, ◌||◌, ◌≤◌, ◌<◌, ltb, length, get_or, IfSome};
+ghost use Rattle.csdl.specs.Search.{first_from, found};
 ghost use Rattle.instance_containment.specs.Graph.{node_in, entry, step_in, within_in};
 ghost use Rattle.instance_containment.specs.Rows.{in_row, with_step, Steps, Passed, Through, Closed};
 
@@ -16,7 +16,7 @@ fn in_row(rows: &[u64], v: u16, w: u16) -> bool
     in_set(rows[4 * (v as usize) + (w / 64) as usize], w % 64)
 }
 
-// Adds a step from a node to a node; each is 0 for none, else its number plus 1.
+// Adds a step from a node to a node, each as an entry of the arrays has it.
 fn put_step(rows: &mut [u64], from: u16, to: u16)
     requires { length rows.old ≡ 1024 }
     ensures { Steps (with_step rows.old from to) rows.new }
@@ -38,9 +38,7 @@ fn step_rows(item_slots: &[u16], slot_nodes: &[u16], to: &[u16], c: u16) -> [u64
     ensures { Steps (step_in (node_in item_slots.now slot_nodes.now) (entry to.now) c) result }
 {
     let mut rows = [0u64; 1024];
-    let mut k = c;
-    while 0 < k {
-        k -= 1;
+    for k in (0..c).rev() {
         put_step(
             &mut rows,
             node_of(item_slots, slot_nodes, k),
@@ -60,10 +58,8 @@ fn pass(rows: &mut [u64], v: u16, c: u16)
     }
     let to = 4 * (v as usize);
     let from = 4 * (c as usize);
-    let mut j: usize = 0;
-    while j < 4 {
-        rows[to + j] = rows[to + j] | rows[from + j];
-        j += 1;
+    for j in 0..4 {
+        rows[to + j] |= rows[from + j];
     }
 }
 
@@ -72,10 +68,8 @@ fn go_through(rows: &mut [u64], n: u16, c: u16)
     requires { (length rows.old ≡ 1024) × (n ≤ 256) × (c < n) }
     ensures { Through n c rows.old rows.new }
 {
-    let mut v: u16 = 0;
-    while v < n {
+    for v in 0..n {
         pass(rows, v, c);
-        v += 1;
     }
 }
 
@@ -84,29 +78,21 @@ fn close_rows(rows: &mut [u64], n: u16)
     requires { (length rows.old ≡ 1024) × (n ≤ 256) }
     ensures { Closed n rows.old rows.new }
 {
-    let mut c: u16 = 0;
-    while c < n {
+    for c in 0..n {
         go_through(rows, n, c);
-        c += 1;
     }
 }
 
 // The first of n nodes that is held more than once or is in its own row.
-fn first_in_rows(times: &[u16], rows: &[u64], n: u16) -> u16
+fn first_in_rows(times: &[u16], rows: &[u64], n: u16) -> Option<u16>
     requires { (length rows.now ≡ 1024) × (n ≤ 256) }
-    ensures { (result ≡ first_from (λ w. ltb 1 (get_or times.now w 0) || in_row rows.now w w) 0 n) × (result ≤ 256) }
+    ensures value { result ≡ found (first_from (λ w. ltb 1 (get_or times.now w 0) || in_row rows.now w w) 0 n) }
+    ensures bound { IfSome result (λ w. w < 256) }
 {
-    let mut w: u16 = 0;
-    while w < n {
-        if (1 < read_at(times, w)) | in_row(rows, w, w) {
-            return w + 1;
-        }
-        w += 1;
-    }
-    0
+    (0..n).find(|w| (1 < read_at(times, *w)) | in_row(rows, *w, *w))
 }
 
-// The first of n nodes that is held more than once or is within itself: 0 for none, else its number plus 1.
+// The first of n nodes that is held more than once or is within itself.
 pub(crate) fn first_by_rows(
     item_slots: &[u16],
     slot_nodes: &[u16],
@@ -114,9 +100,10 @@ pub(crate) fn first_by_rows(
     times: &[u16],
     c: u16,
     n: u16,
-) -> u16
+) -> Option<u16>
     requires { n ≤ 256 }
-    ensures { (result ≡ first_from (λ w. ltb 1 (get_or times.now w 0) || within_in (node_in item_slots.now slot_nodes.now) (entry to.now) c n w) 0 n) × (result ≤ 256) }
+    ensures value { result ≡ found (first_from (λ w. ltb 1 (get_or times.now w 0) || within_in (node_in item_slots.now slot_nodes.now) (entry to.now) c n w) 0 n) }
+    ensures bound { IfSome result (λ w. w < 256) }
 {
     let mut rows = step_rows(item_slots, slot_nodes, to, c);
     close_rows(&mut rows, n);

@@ -1,6 +1,7 @@
-// The instance image: the fields of its nodes, slots and items, its form, and its tables.
-#![tactic(auto)]
+// The instance image: its form (`image`); the instance in it (`instance`, `read`), with one method a field of each table (`fields`).
+#![tactic(auto, unfolding(crate::specs::Read::instance_read, csdl::specs::Instance::instance_of))]
 
 pub mod fields;
 pub mod image;
-pub mod tables;
+pub mod instance;
+pub mod read;

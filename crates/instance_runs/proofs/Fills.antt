@@ -14,7 +14,7 @@ use Rattle.csdl.specs.Search.{first_from, sum_from, count_from, one_if, tab}
 use Rattle.csdl.specs.declared.Run.{Run}
 use Rattle.csdl.specs.Model.{in_run}
 use Rattle.csdl.proofs.Logic.{tab-length, tab-at}
-use Rattle.instance_runs.specs.Tables.{Tabulates, changed, to_two}
+use Rattle.instance_runs.specs.Tables.{Tabulates, changed, left_by, to_two}
 use Rattle.csdl.proofs.Loops.{one_more, none_left}
 
 -- An array that has f at each of its places is the table of f, and the other way round.
@@ -28,6 +28,9 @@ module _ (f : ℕ → ℕ) (n : ℕ) (array : List ℕ) where
     size = ap (λ (l : List ℕ). length l) e ∙ tab-length f 0 n;
     at = λ k h. ap (λ (l : List ℕ). get_or l k 0) e ∙ tab-at f 0 n k h;
   }
+
+pub tabulates-same : {f : ℕ → ℕ} {n : ℕ} {l : List ℕ} (g : ℕ → ℕ) → Tabulates f n l → ((k : ℕ) → f k ≡ g k) → Tabulates g n l
+tabulates-same g h e = record { size = h.size; at = λ k l. h.at k l ∙ e k }
 
 -- What an array holds after a change, place by place.
 record Changed (g : ℕ → ℕ) (r : Run) (before after : List ℕ) : Type 0 where
@@ -110,87 +113,40 @@ zeros zero w = refl
 zeros (suc n) zero = refl
 zeros (suc n) (suc w) = zeros n w
 
--- The first run from v on, of n, that has place k; how many of them have it, at most 2.
-unfoldable pub first_in : (ℕ → Run) → ℕ → ℕ → ℕ → ℕ
-first_in run n v k = first_from (λ u. in_run (run u) k) v (n - v)
+-- What the runs from v on, of n, leave at place k.
+unfoldable pub left_in : (ℕ → Run) → (ℕ → ℕ → ℕ) → ℕ → ℕ → ℕ → ℕ
+left_in run g n v k = left_by run g k v (n - v)
 
-unfoldable pub count_in : (ℕ → Run) → ℕ → ℕ → ℕ → ℕ
-count_in run n v k = to_two (count_from (λ u. in_run (run u) k) v (n - v))
+module _ (run : ℕ → Run) (g : ℕ → ℕ → ℕ) (n m : ℕ) where
+  pub left-none : (v : ℕ) → n ≤ v → Tabulates (left_in run g n v) m (replicate m 0)
+  unfolding left_in left_by
+  left-none v h = record { size = length-replicate m 0; at = λ k l. zeros m k ∙ rw (none_left n v h) }
 
--- What an array of m places holds when the runs from v on are done. u is the next run, the one from a on with b places.
-module _ (run : ℕ → Run) (n m : ℕ) where
-  pub first-none : (v : ℕ) → n ≤ v → Tabulates (first_in run n v) m (replicate m 0)
-  unfolding first_in first_from
-  first-none v h = record { size = length-replicate m 0; at = λ k l. zeros m k ∙ rw (none_left n v h) }
+  -- Run u, the one before v, is r.
+  pub left_down : (u v : ℕ) (r : Run) → v ≡ u + 1 → u < n → (r.first ≡ (run u).first) × (r.count ≡ (run u).count) → (before after : List ℕ)
+      → Tabulates (left_in run g n v) m before → after ≡ changed (λ x. g u x) r before
+      → Tabulates (left_in run g n u) m after
+  unfolding left_in left_by
+  left_down u v r e h p before after i made =
+      let c = changes _ _ before after made in
+      record { size = c.size ∙ i.size; at = λ k l. c.at k (omega (arith, i.size)) ∙ rw (i.at k l, p.0, p.1, one_more n u h, e) }
 
-  pub count_none : (v : ℕ) → n ≤ v → Tabulates (count_in run n v) m (replicate m 0)
-  unfolding count_in sum_from
-  count_none v h = record { size = length-replicate m 0; at = λ k l. zeros m k ∙ rw (none_left n v h) }
+  pub left-all : (v : ℕ) (l : List ℕ) → v ≤ 0 → Tabulates (left_in run g n v) m l → Tabulates (λ k. left_by run g k 0 n) m l
+  unfolding left_in
+  left-all v l h i = let z : v ≡ 0 = omega arith in record { size = i.size; at = λ k b. i.at k b ∙ rw (z, sub-zero n) }
 
-  module _ (u v a b : ℕ) (e : v ≡ u + 1) (p : a ≡ (run u).first) (q : b ≡ (run u).count) (before after : List ℕ) where
-    pub first_down : u < n → (x : ℕ) → x ≡ u + 1 → Tabulates (first_in run n v) m before → after ≡ changed (λ y. x) (record { first = a; count = b }) before
-        → Tabulates (first_in run n u) m after
-    unfolding first_in first_from
-    first_down h x g i made =
-        let c = changes _ _ before after made in
-        record {
-          size = c.size ∙ i.size;
-          at = λ k l. c.at k (omega (arith, i.size)) ∙ rw (i.at k l, p, q, one_more n u h, e, g, add-one u);
-        }
+-- What is left where each run leaves its number plus 1, and where each adds one, up to 2.
+module _ (run : ℕ → Run) (k : ℕ) where
+  pub first-left : (n i : ℕ) → left_by run (λ v x. v + 1) k i n ≡ first_from (λ u. in_run (run u) k) i n
+  unfolding left_by first_from
+  first-left zero i = refl
+  first-left (suc n) i = rw (first-left n (i + 1), add-one i)
 
-    pub count_down : u < n → Tabulates (count_in run n v) m before → after ≡ changed (λ y. to_two (y + 1)) (record { first = a; count = b }) before
-        → Tabulates (count_in run n u) m after
-    unfolding count_in sum_from
-    count_down h i made =
-        let c = changes _ _ before after made in
-        record {
-          size = c.size ∙ i.size;
-          at = λ k l. c.at k (omega (arith, i.size)) ∙ rw (i.at k l, p, q, one_more n u h, e) (go (in_run (run u) k) (sum_from (λ w. one_if (in_run (run w) k)) (u + 1) (n - (u + 1))));
-        }
-      where
-        go : (t : Bool) (s : ℕ) → cond t (to_two (to_two s + 1)) (to_two s) ≡ to_two (one_if t + s)
-        go true s = omega arith
-        go false s = omega arith
-
-  pub first-all : (v : ℕ) (f : ℕ → ℕ) (l : List ℕ) → v ≤ 0 → ((k : ℕ) → f k ≡ first_from (λ u. in_run (run u) k) 0 n) → Tabulates (first_in run n v) m l
-      → Tabulates f m l
-  unfolding first_in
-  first-all v f l h e i =
-      let z : v ≡ 0 = omega arith in
-      record { size = i.size; at = λ k b. i.at k b ∙ rw (z, sub-zero n, e k) }
-
-  pub count-all : (v : ℕ) (f : ℕ → ℕ) (l : List ℕ) → v ≤ 0 → ((k : ℕ) → f k ≡ to_two (count_from (λ u. in_run (run u) k) 0 n))
-      → Tabulates (count_in run n v) m l
-      → Tabulates f m l
-  unfolding count_in
-  count-all v f l h e i =
-      let z : v ≡ 0 = omega arith in
-      record { size = i.size; at = λ k b. i.at k b ∙ rw (z, sub-zero n, e k) }
-
--- The value of the first of the n runs from i on that has place k, or 0.
-unfoldable pub latest : (ℕ → Run) → (ℕ → ℕ) → ℕ → ℕ → ℕ → ℕ
-latest run value k i zero = 0
-latest run value k i (suc n) = let rest = latest run value k (i + 1) n in cond (in_run (run i) k) (value i) rest
-
-unfoldable pub latest_in : (ℕ → Run) → (ℕ → ℕ) → ℕ → ℕ → ℕ → ℕ
-latest_in run value n v k = latest run value k v (n - v)
-
-module _ (run : ℕ → Run) (value : ℕ → ℕ) (n m : ℕ) where
-  pub latest_none : (v : ℕ) → n ≤ v → Tabulates (latest_in run value n v) m (replicate m 0)
-  unfolding latest_in latest
-  latest_none v h = record { size = length-replicate m 0; at = λ k l. zeros m k ∙ rw (none_left n v h) }
-
-  module _ (u v a b : ℕ) (e : v ≡ u + 1) (p : a ≡ (run u).first) (q : b ≡ (run u).count) (before after : List ℕ) where
-    pub latest_down : u < n → (x : ℕ) → x ≡ value u → Tabulates (latest_in run value n v) m before
-        → after ≡ changed (λ y. x) (record { first = a; count = b }) before
-        → Tabulates (latest_in run value n u) m after
-    unfolding latest_in latest
-    latest_down h x g i made =
-        let c = changes _ _ before after made in
-        record { size = c.size ∙ i.size; at = λ k l. c.at k (omega (arith, i.size)) ∙ rw (i.at k l, p, q, one_more n u h, e, g) }
-
-  pub latest_all : (v : ℕ) (f : ℕ → ℕ) (l : List ℕ) → v ≤ 0 → ((k : ℕ) → f k ≡ latest run value k 0 n) → Tabulates (latest_in run value n v) m l → Tabulates f m l
-  unfolding latest_in
-  latest_all v f l h e i =
-      let z : v ≡ 0 = omega arith in
-      record { size = i.size; at = λ k b. i.at k b ∙ rw (z, sub-zero n, e k) }
+  pub count_left : (n i : ℕ) → left_by run (λ v x. to_two (x + 1)) k i n ≡ to_two (count_from (λ u. in_run (run u) k) i n)
+  unfolding left_by sum_from
+  count_left zero i = refl
+  count_left (suc n) i = rw (count_left n (i + 1)) (go (in_run (run i) k) (count_from (λ u. in_run (run u) k) (i + 1) n))
+    where
+      go : (t : Bool) (s : ℕ) → cond t (to_two (to_two s + 1)) (to_two s) ≡ to_two (one_if t + s)
+      go true s = omega arith
+      go false s = omega arith

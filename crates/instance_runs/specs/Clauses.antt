@@ -1,13 +1,18 @@
 -- Clauses of rule 21, as functions of the check answer them.
-use Rattle.std.specs.Prelude.{ℕ, Bool, not, ◌&&◌, ◌||◌, eqb, ltb}
+use Rattle.std.specs.Prelude.{ℕ, Bool, true, false, not, ◌||◌, eqb, ltb, Option, Some, None}
+use Rattle.csdl.specs.declared.SlotState.{SlotState}
+use Rattle.csdl.specs.declared.SlotState.TheVariants.{Null, Single, Collection}
 use Rattle.csdl.specs.Model.{Model}
 use Rattle.csdl.specs.Form.{run4cd}
 use Rattle.csdl.specs.Instance.{Instance}
 use Rattle.csdl.specs.Conforms.{count_unlike}
 
--- An item count is unlike the state of its slot.
-abbrev pub unlike_count : ℕ → ℕ → Bool
-unlike_count state count = eqb state 0 && not (eqb count 0) || eqb state 1 && not (eqb count 1)
+-- The state is none, or the item count is unlike it.
+abbrev pub state_unlike : Option SlotState → ℕ → Bool
+state_unlike (Some Null) count = not (eqb count 0)
+state_unlike (Some Single) count = not (eqb count 1)
+state_unlike (Some Collection) count = false
+state_unlike None count = true
 
 -- 21b of a slot, but for the nodes whose run has it.
 unfoldable pub slot_form : Model → Instance → ℕ → Bool

@@ -1,3 +1,3 @@
-pub mod Frames
 pub mod Places
 pub mod Slotted
+pub mod States

@@ -2,16 +2,18 @@
 use Prim.Native.Nat.{ℕ, zero, suc, ◌+◌, ◌-◌, ◌*◌, ◌≤◌, ◌<◌}
 use mathlib.Core.Path.{◌≡◌, refl, sym, ap, ◌∙◌}
 use mathlib.Core.Bool.{Bool, true, false, not, ◌&&◌, ◌||◌, or-false, false≢true}
-use mathlib.Core.List.{List, []}
+use mathlib.Core.List.{List}
 use native.Mathlib.Omega.{arith}
+use native.Mathlib.Numerals.{add-one}
+use Rattle.std.proofs.Common.{Some}
 use lib.Dec.{eqb, ltb}
 use lib.ListN.{length, replicate, length-replicate}
 use borrow.Author.Tests.{eq-eqb, ne_eqb, lt-ltb, le-ltb}
-use Rattle.csdl.specs.Search.{sum_from, one_if}
-use Rattle.csdl.specs.Tables.{property_count}
-use Rattle.csdl.specs.Model.{model_of}
+use Rattle.csdl.specs.Search.{sum_from, one_if, found}
+use Rattle.csdl.specs.declared.Run.{Run}
+use Rattle.csdl.specs.Model.{Model}
 use Rattle.csdl.specs.Find.{is_name_of}
-use Rattle.csdl.specs.Instance.{instance_of, node_type_in, node_slots_in, slot_property_in}
+use Rattle.csdl.specs.Instance.{Instance}
 use Rattle.csdl.specs.Conforms.{slots_of, node23}
 use Rattle.csdl.proofs.Logic.{any_of, none_any, any_same, equal_or_not, below_or_not}
 use Rattle.type_hierarchy.specs.Sets.{member, Members}
@@ -50,27 +52,27 @@ one_if_false : (b : Bool) → b ≡ false → one_if b ≡ 0
 one_if_false b e = rw e
 
 -- ---- the slots of a run one after the other: `seen` has the properties that were met
-module _ (slots rows : List ℕ) (from n first count : ℕ) (past : (p : ℕ) → n ≤ p → p < 512 → wide rows from p ≡ false) (few : n ≤ 512) where
-  pub record Slotted (seen : List ℕ) (done : ℕ) : Type 0 where
-    pub size : length seen ≡ 8
-    pub most : done ≤ count
-    pub counted : (p : ℕ) → p < n → one_if (wide seen 0 p) ≡ slots_with slots first done p
-    pub none : (p : ℕ) → n ≤ p → p < 512 → wide seen 0 p ≡ false
+pub record Slotted (i : Instance) (n : ℕ) (run : Run) (seen : List ℕ) (done : ℕ) : Type 0 where
+  pub size : length seen ≡ 8
+  pub most : done ≤ run.count
+  pub counted : (p : ℕ) → p < n → one_if (wide seen 0 p) ≡ slots_with i run.first done p
+  pub none : (p : ℕ) → n ≤ p → p < 512 → wide seen 0 p ≡ false
 
-  pub slotted_start : Slotted (replicate 8 0) 0
+module _ (i : Instance) (rows : List ℕ) (from n : ℕ) (run : Run) (few : n ≤ 512) where
+  pub slotted_start : Slotted i n run (replicate 8 0) 0
   slotted_start = record {
     size = length-replicate {A = ℕ} 8 0;
     most = omega arith;
-    counted = λ p h. one_if_false _ (wide-none p (omega arith)) ∙ sym (sum_none _ first);
+    counted = λ p h. one_if_false _ (wide-none p (omega arith)) ∙ sym (sum_none _ run.first);
     none = λ p h k. wide-none p k;
   }
 
-  module _ (seen : List ℕ) (done : ℕ) (w : Slotted seen done) (l : done < count) (x : ℕ) (e : x ≡ slot_property_in slots (first + done)) where
-    more : (p : ℕ) → slots_with slots first (done + 1) p ≡ slots_with slots first done p + one_if (eqb x p)
-    more p = sum_more (λ s. one_if (eqb (slot_property_in slots s) p)) first done ∙ rw (← e)
+  module _ (seen : List ℕ) (done : ℕ) (w : Slotted i n run seen done) (l : done < run.count) (x : ℕ) (e : x ≡ i.slot_property (run.first + done)) where
+    more : (p : ℕ) → slots_with i run.first (done + 1) p ≡ slots_with i run.first done p + one_if (eqb x p)
+    more p = sum_more (λ s. one_if (eqb (i.slot_property s) p)) run.first done ∙ rw (← e)
 
     -- A property that does not count.
-    pub slotted_past : n ≤ x → Slotted seen (done + 1)
+    pub slotted_past : n ≤ x → Slotted i n run seen (done + 1)
     slotted_past h = record {
       size = w.size;
       most = omega arith;
@@ -79,15 +81,15 @@ module _ (slots rows : List ℕ) (from n first count : ℕ) (past : (p : ℕ) �
     }
 
     -- A property that is not in the set, or was met before.
-    pub slotted_wrong : x < n → (a b : Bool) → a ≡ wide rows from x → b ≡ wide seen 0 x → (not a || b) ≡ true → true ≡ unlike_set slots rows from n first count
+    pub slotted_wrong : x < n → (a b : Bool) → a ≡ wide rows from x → b ≡ wide seen 0 x → (not a || b) ≡ true → true ≡ unlike_set i rows from n run
     slotted_wrong h a b p q g =
-        sym (any_of _ 0 n x (omega arith) (omega arith) (ap not (ne_eqb (slots_with slots first count x) (one_if (wide rows from x)) (λ y. omega (arith, y, most-one, at_least)))))
+        sym (any_of _ 0 n x (omega arith) (omega arith) (ap not (ne_eqb (slots_with i run.first run.count x) (one_if (wide rows from x)) (λ y. omega (arith, y, most-one, at_least)))))
       where
-        met : slots_with slots first (done + 1) x ≡ one_if b + 1
+        met : slots_with i run.first (done + 1) x ≡ one_if b + 1
         met = more x ∙ rw (eq-eqb x x refl, ← w.counted x h, ← q)
 
-        at_least : one_if b + 1 ≤ slots_with slots first count x
-        at_least = rw (← met) (sum_part (λ s. one_if (eqb (slot_property_in slots s) x)) first (done + 1) count (omega arith))
+        at_least : one_if b + 1 ≤ slots_with i run.first run.count x
+        at_least = rw (← met) (sum_part (λ s. one_if (eqb (i.slot_property s) x)) run.first (done + 1) run.count (omega arith))
 
         over : (a b : Bool) → (not a || b) ≡ true → one_if a ≤ one_if b
         over true true g = omega arith
@@ -99,7 +101,7 @@ module _ (slots rows : List ℕ) (from n first count : ℕ) (past : (p : ℕ) �
 
     -- A property of the set, met for the first time.
     pub slotted_more : x < n → (a b : Bool) → a ≡ wide rows from x → b ≡ wide seen 0 x → (not a || b) ≡ false
-        → (next : List ℕ) → length next ≡ 8 → MembersWide next 0 (λ q. wide seen 0 q || eqb x q) → Slotted next (done + 1)
+        → (next : List ℕ) → length next ≡ 8 → MembersWide next 0 (λ q. wide seen 0 q || eqb x q) → Slotted i n run next (done + 1)
     slotted_more h a b p q g next s f = record {
       size = s;
       most = omega arith;
@@ -117,16 +119,16 @@ module _ (slots rows : List ℕ) (from n first count : ℕ) (past : (p : ℕ) �
         fresh true b g = g
         fresh false b g = absurd (false≢true (sym g))
 
-  pub slotted_end : (seen : List ℕ) (done : ℕ) → count ≤ done → Slotted seen done → (r : Bool) → r ≡ unlike_wide seen rows from → r ≡ unlike_set slots rows from n first count
-  slotted_end seen done h w r q = go r refl
+  pub slotted_end : (seen : List ℕ) (done : ℕ) → ((p : ℕ) → n ≤ p → p < 512 → wide rows from p ≡ false) → run.count ≤ done → Slotted i n run seen done → (r : Bool) → r ≡ unlike_wide seen rows from → r ≡ unlike_set i rows from n run
+  slotted_end seen done past h w r q = go r refl
     where
       u : Unlike seen rows from r
       u = unlike_sets seen rows from r q
 
-      all : done ≡ count
+      all : done ≡ run.count
       all = omega (arith, h, w.most)
 
-      count-is : (p : ℕ) → p < n → one_if (wide seen 0 p) ≡ slots_with slots first count p
+      count-is : (p : ℕ) → p < n → one_if (wide seen 0 p) ≡ slots_with i run.first run.count p
       count-is p k = w.counted p k ∙ rw all
 
       one_if_same : (a b : Bool) → one_if a ≡ one_if b → a ≡ b
@@ -135,7 +137,7 @@ module _ (slots rows : List ℕ) (from n first count : ℕ) (past : (p : ℕ) �
       one_if_same false true e = absurd (omega arith)
       one_if_same false false e = refl
 
-      go : (b : Bool) → r ≡ b → b ≡ unlike_set slots rows from n first count
+      go : (b : Bool) → r ≡ b → b ≡ unlike_set i rows from n run
       go true e =
           let d = u.some e in
           let p = d.0 in
@@ -145,18 +147,18 @@ module _ (slots rows : List ℕ) (from n first count : ℕ) (past : (p : ℕ) �
           sym (none_any _ 0 n (λ p a k. ap not (eq-eqb _ _ (sym (count-is p (omega (arith, k))) ∙ ap one_if (u.none e p (omega (arith, k)))))))
 
 -- ---- the rows of the types that were met
-module _ (types properties names : List ℕ) where
+module _ (m : Model) where
   abbrev named : ℕ → ℕ → Bool
-  named t p = ltb p (property_count properties) && is_name_of (model_of [] types properties [] [] [] [] [] names) t p
+  named t p = ltb p m.properties && is_name_of m t p
 
-  pub rows_start : Rows types properties names (replicate 512 0) 0
+  pub rows_start : Rows m (replicate 512 0) 0
   rows_start = record {
     size = length-replicate {A = ℕ} 512 0;
     is = λ t h e. absurd (false≢true (sym (member-none t) ∙ e));
   }
 
-  rows_more : (rows row next : List ℕ) (done more t : ℕ) → Rows types properties names rows done → MembersWide row 0 (named t) → t < 64 → next ≡ with_row rows row t
-      → Members 64 more (λ u. member done u || eqb t u) → Rows types properties names next more
+  rows_more : (rows row next : List ℕ) (done more t : ℕ) → Rows m rows done → MembersWide row 0 (named t) → t < 64 → next ≡ with_row rows row t
+      → Members 64 more (λ u. member done u || eqb t u) → Rows m next more
   rows_more rows row next done more t w h s e m = let n = replaced rows row t next s e in record {
     size = n.size;
     is = λ u k f. equal_or_not u t
@@ -172,28 +174,31 @@ module _ (types properties names : List ℕ) where
       or-true false = refl
 
   -- After a step that makes the row of t, and after one that has it.
-  pub row_made : (rows row next : List ℕ) (done more t : ℕ) → Rows types properties names rows done → MembersWide row 0 (named t) → t < 64 → next ≡ with_row rows row t
+  pub row_made : (rows row next : List ℕ) (done more t : ℕ) → Rows m rows done → MembersWide row 0 (named t) → t < 64 → next ≡ with_row rows row t
       → Members 64 more (λ u. member done u || eqb t u) → (rows' : List ℕ) → rows' ≡ next → (done' : ℕ) → done' ≡ more
-      → Rows types properties names rows' done' × (member done' t ≡ true)
+      → Rows m rows' done' × (member done' t ≡ true)
   row_made rows row next done more t w h s e m rows' a done' b = rw (a, b) (rows_more rows row next done more t w h s e m, rows_has done more t s m)
 
-  pub row_kept : (rows : List ℕ) (done t : ℕ) → Rows types properties names rows done → member done t ≡ true → (rows' : List ℕ) → rows' ≡ rows → (done' : ℕ) → done' ≡ done
-      → Rows types properties names rows' done' × (member done' t ≡ true)
+  pub row_kept : (rows : List ℕ) (done t : ℕ) → Rows m rows done → member done t ≡ true → (rows' : List ℕ) → rows' ≡ rows → (done' : ℕ) → done' ≡ done
+      → Rows m rows' done' × (member done' t ≡ true)
   row_kept rows done t w m rows' a done' b = rw (a, b) (w, m)
 
-  module _ (rows : List ℕ) (done t : ℕ) (w : Rows types properties names rows done) (h : t < 64) (e : member done t ≡ true) where
-    pub row_past : (n : ℕ) → n ≡ property_count properties → (p : ℕ) → n ≤ p → p < 512 → wide rows (8 * t) p ≡ false
-    row_past n z p k l = w.is t h e p l ∙ rw (le-ltb p (property_count properties) (omega arith))
+  module _ (rows : List ℕ) (done t : ℕ) (w : Rows m rows done) (h : t < 64) (e : member done t ≡ true) where
+    pub row_past : (n : ℕ) → n ≡ m.properties → (p : ℕ) → n ≤ p → p < 512 → wide rows (8 * t) p ≡ false
+    row_past n z p k l = w.is t h e p l ∙ rw (le-ltb p m.properties (omega arith))
 
-    row-names : (p : ℕ) → p < 512 → p < property_count properties → wide rows (8 * t) p ≡ is_name_of (model_of [] types properties [] [] [] [] [] names) t p
-    row-names p k l = w.is t h e p k ∙ rw (lt-ltb p (property_count properties) l)
+    row-names : (p : ℕ) → p < 512 → p < m.properties → wide rows (8 * t) p ≡ is_name_of m t p
+    row-names p k l = w.is t h e p k ∙ rw (lt-ltb p m.properties l)
 
-    pub row_23 : (nodes slots : List ℕ) (v n first count : ℕ) → n ≡ property_count properties → n ≤ 512 → t ≡ node_type_in nodes v
-        → first ≡ (node_slots_in nodes v).first → count ≡ (node_slots_in nodes v).count
-        → (r : Bool) → r ≡ unlike_set slots rows (8 * t) n first count
-        → r ≡ node23 (model_of [] types properties [] [] [] [] [] names) (instance_of nodes slots []) v
-    unfolding model_of instance_of slots_of node23
-    row_23 nodes slots v n first count z few a b c r q =
+    pub row_23 : (i : Instance) (v n : ℕ) (run : Run) → n ≡ m.properties → n ≤ 512 → t ≡ i.node_type v → (run.first ≡ (i.node_slots v).first) × (run.count ≡ (i.node_slots v).count)
+        → (r : Bool) → r ≡ unlike_set i rows (8 * t) n run
+        → r ≡ node23 m i v
+    unfolding slots_of node23
+    row_23 i v n run z few a b r q =
         q
-        ∙ any_same _ _ 0 n (λ p i k. ap (λ (m : Bool). not (eqb (slots_with slots first count p) (one_if m))) (row-names p (omega (arith, k, few)) (omega (arith, k, z))))
-        ∙ rw (← a, ← b, ← c, ← z)
+        ∙ any_same _ _ 0 n (λ p j k. ap (λ (x : Bool). not (eqb (slots_with i run.first run.count p) (one_if x))) (row-names p (omega (arith, k, few)) (omega (arith, k, z))))
+        ∙ rw (← a, ← b.0, ← b.1, ← z)
+
+-- What a loop that stops at number k answers.
+pub found-hit : (k f : ℕ) → k + 1 ≡ f → Some k ≡ found f
+found-hit k f e = rw (← e, add-one k)

@@ -1,162 +1,125 @@
 // Rules 22, 24 and 25: nodes, slots and items against the model.
-ghost use Rattle.std.specs.Prelude.{◌≡◌, false, [], ◌-◌, ◌+◌, ◌≤◌, ◌<◌};
-ghost use Rattle.csdl.specs.Search as search;
-ghost use Rattle.csdl.specs.Model.{model_of};
-ghost use Rattle.csdl.specs.Instance.{instance_of, slot_count, node_count, item_count};
+ghost use Rattle.std.specs.Prelude.{◌≡◌, ◌<◌, IfSome};
+ghost use Rattle.csdl.specs.Search.{first_from, found};
 ghost use Rattle.csdl.specs.Conforms.{node22, slot24, slot_of_item, item_property, is_null, carries_node, item25of, item25};
+ghost use Rattle.instance_image.specs.Read.{instance_read};
+ghost use Rattle.model_image.specs.Read.{model_read};
 ghost use Rattle.instance_runs.specs.Tables.{Tabulates};
-ghost use Rattle.type_hierarchy.specs.AncestorSets.{ancestors_of};
-ghost use Rattle.model_image.specs.Limits.{FewTypes};
-ghost use Rattle.instance_image.specs.Limits.{FewItems, FewNodes, FewSlots};
+ghost use Rattle.instance_values.specs.States.{unlike_property};
 
-use instance_image::fields::{
-    item_count, item_handle, item_ref, node_count, node_type, slot_count, slot_property, slot_state,
-};
-use model_image::properties::{property_collection, property_nullable, property_type_ref};
-use model_image::types::type_abstract;
-use type_hierarchy::ancestors::{all_ancestors, ancestor_or_self};
+use csdl::SlotState;
+use instance_image::instance::Instance;
+use model_image::model::Model;
+use type_hierarchy::hierarchy::Hierarchy;
 use type_hierarchy::kinds::structured;
 
 // Rule 22.
-fn node_22(types: &[u8], nodes: &[u8], v: u16) -> bool
-    requires { FewTypes types.now }
-    ensures { result ≡ node22 (model_of [] types.now [] [] [] [] [] [] []) (instance_of nodes.now [] []) v }
+fn node_22(model: &Model, instance: &Instance, v: u16) -> bool
+    ensures { result ≡ node22 (model_read model.now) (instance_read instance.now) v }
 {
-    let t = node_type(nodes, v);
-    !structured(types, t) | type_abstract(types, t)
+    let t = instance.node_type(v);
+    !structured(model, t) | model.type_abstract(t)
+}
+
+// Whether a state is not that of a property, by whether the property is a collection and whether it is nullable.
+fn unlike_property(state: Option<SlotState>, collection: bool, nullable: bool) -> bool
+    ensures { result ≡ unlike_property state collection nullable }
+{
+    match state {
+        Some(SlotState::Null) => collection | !nullable,
+        Some(SlotState::Single) => collection,
+        Some(SlotState::Collection) => !collection,
+        None => false,
+    }
 }
 
 // Rule 24.
-fn slot_24(properties: &[u8], slots: &[u8], s: u16) -> bool
-    ensures { result ≡ slot24 (model_of [] [] properties.now [] [] [] [] [] []) (instance_of [] slots.now []) s }
+fn slot_24(model: &Model, instance: &Instance, s: u16) -> bool
+    ensures { result ≡ slot24 (model_read model.now) (instance_read instance.now) s }
 {
-    let state = slot_state(slots, s);
-    let p = slot_property(slots, s);
-    let collection = property_collection(properties, p);
-    let nullable = property_nullable(properties, p);
-    ((state == 0) & (collection | !nullable))
-        | ((state == 1) & collection)
-        | ((state == 2) & !collection)
+    let p = instance.slot_property(s);
+    unlike_property(
+        instance.slot_state(s),
+        model.property_collection(p),
+        model.property_nullable(p),
+    )
 }
 
 // Whether an item is null.
-pub fn is_null(items: &[u8], k: u16) -> bool
-    ensures { result ≡ is_null (instance_of [] [] items.now) k }
+pub fn is_null(instance: &Instance, k: u16) -> bool
+    ensures { result ≡ is_null (instance_read instance.now) k }
 {
-    if item_ref(items, k) != 255 {
-        return false;
-    }
-    item_handle(items, k) == 0
+    (instance.item_ref(k) == 255) & (instance.item_handle(k) == 0)
 }
 
 // Whether item k carries its node's type, at type u, and the node's number.
-fn carries_node(types: &[u8], nodes: &[u8], items: &[u8], ancestors: &[u64], u: u16, k: u16) -> bool
-    requires { FewTypes types.now × FewNodes nodes.now × (ancestors.now ≡ ancestors_of types.now) }
-    ensures { result ≡ carries_node (model_of [] types.now [] [] [] [] [] [] []) (instance_of nodes.now [] items.now) u k }
+fn carries_node(hierarchy: &Hierarchy, instance: &Instance, u: u16, k: u16) -> bool
+    ensures { result ≡ carries_node (model_read hierarchy.now.model) (instance_read instance.now) u k }
 {
-    let handle = item_handle(items, k);
-    if handle >= node_count(nodes) as u32 {
-        return false;
-    }
-    let t = item_ref(items, k);
-    if t != node_type(nodes, handle as u16) {
-        return false;
-    }
-    ancestor_or_self(types, ancestors, u, t)
+    let handle = instance.item_handle(k);
+    let t = instance.item_ref(k);
+    handle < instance.node_count() as u32
+        && t == instance.node_type(handle as u16)
+        && hierarchy.ancestor_or_self(u, t)
 }
 
-// Rule 25 of an item, by its property: 0 for none, else the number plus 1.
-fn item_25_of(
-    types: &[u8],
-    properties: &[u8],
-    nodes: &[u8],
-    items: &[u8],
-    ancestors: &[u64],
-    property: u16,
-    k: u16,
-) -> bool
-    requires { FewTypes types.now × FewNodes nodes.now × (ancestors.now ≡ ancestors_of types.now) }
-    ensures { result ≡ search.if_found false (λ p. item25of (model_of [] types.now properties.now [] [] [] [] [] []) (instance_of nodes.now [] items.now) p k) property }
+// Rule 25 of item k of property p.
+fn item_25_of(hierarchy: &Hierarchy, instance: &Instance, p: u16, k: u16) -> bool
+    ensures { result ≡ item25of (model_read hierarchy.now.model) (instance_read instance.now) p k }
 {
-    if property == 0 {
-        return false;
+    let model = &hierarchy.model;
+    if is_null(instance, k) {
+        return !(model.property_collection(p) & model.property_nullable(p));
     }
-    let p = property - 1;
-    if is_null(items, k) {
-        return !(property_collection(properties, p) & property_nullable(properties, p));
+    let u = model.property_type_ref(p);
+    if structured(model, u) {
+        return !carries_node(hierarchy, instance, u, k);
     }
-    let u = property_type_ref(properties, p);
-    if structured(types, u) {
-        return !carries_node(types, nodes, items, ancestors, u, k);
-    }
-    item_ref(items, k) != u
+    instance.item_ref(k) != u
 }
 
-// The property of the slot that has item k: 0 for none, else its number plus 1. `item_slots` has for each item the slot whose run has it.
-pub fn item_property(slots: &[u8], item_slots: &[u16], k: u16) -> u16
-    requires { (k < 2048) × Tabulates (λ k. slot_of_item (instance_of [] slots.now []) k) 2048 item_slots.now }
-    ensures { result ≡ item_property (instance_of [] slots.now []) k }
+// The property of the slot that has item k. `item_slots` has for each item the slot whose run has it.
+pub fn item_property(instance: &Instance, item_slots: &[u16], k: u16) -> Option<u16>
+    requires { (k < 2048) × Tabulates (λ k. slot_of_item (instance_read instance.now) k) 2048 item_slots.now }
+    ensures { result ≡ found (item_property (instance_read instance.now) k) }
 {
-    let slot = item_slots[k as usize];
-    if slot == 0 {
-        return 0;
-    }
-    slot_property(slots, slot - 1) + 1
+    let slot = item_slots[k as usize].checked_sub(1)?;
+    Some(instance.slot_property(slot))
 }
 
-// The first node that breaks rule 22: 0 for none, else its number plus 1.
-pub fn first_22(types: &[u8], nodes: &[u8]) -> u16
-    requires { FewTypes types.now × FewNodes nodes.now }
-    ensures { (result ≡ search.first_from (λ v. node22 (model_of [] types.now [] [] [] [] [] [] []) (instance_of nodes.now [] []) v) 0 (node_count nodes.now)) × (result ≤ 256) }
+// Rule 25 of item k.
+fn item_25(hierarchy: &Hierarchy, instance: &Instance, item_slots: &[u16], k: u16) -> bool
+    requires { (k < 2048) × Tabulates (λ k. slot_of_item (instance_read instance.now) k) 2048 item_slots.now }
+    ensures { result ≡ item25 (model_read hierarchy.now.model) (instance_read instance.now) k }
 {
-    let n = node_count(nodes);
-    let mut v: u16 = 0;
-    while v < n {
-        if node_22(types, nodes, v) {
-            return v + 1;
-        }
-        v += 1;
+    match item_property(instance, item_slots, k) {
+        Some(p) => item_25_of(hierarchy, instance, p, k),
+        None => false,
     }
-    0
 }
 
-// The first slot that breaks rule 24: 0 for none, else its number plus 1.
-pub fn first_24(properties: &[u8], slots: &[u8]) -> u16
-    requires { FewSlots slots.now }
-    ensures { (result ≡ search.first_from (λ s. slot24 (model_of [] [] properties.now [] [] [] [] [] []) (instance_of [] slots.now []) s) 0 (slot_count slots.now)) × (result ≤ 1024) }
+// The first node that breaks rule 22.
+pub fn first_22(model: &Model, instance: &Instance) -> Option<u16>
+    ensures value { result ≡ found (first_from (λ v. node22 (model_read model.now) (instance_read instance.now) v) 0 (instance_read instance.now).nodes) }
+    ensures bound { IfSome result (λ k. k < 256) }
 {
-    let n = slot_count(slots);
-    let mut s: u16 = 0;
-    while s < n {
-        if slot_24(properties, slots, s) {
-            return s + 1;
-        }
-        s += 1;
-    }
-    0
+    (0..instance.node_count()).find(|v| node_22(model, instance, *v))
 }
 
-// The first item that breaks rule 25: 0 for none, else its number plus 1. `item_slots` has for each item the slot whose run has it.
-pub fn first_25(
-    types: &[u8],
-    properties: &[u8],
-    nodes: &[u8],
-    slots: &[u8],
-    items: &[u8],
-    item_slots: &[u16],
-) -> u16
-    requires { FewTypes types.now × FewNodes nodes.now × FewItems items.now × Tabulates (λ k. slot_of_item (instance_of [] slots.now []) k) 2048 item_slots.now }
-    ensures { (result ≡ search.first_from (λ k. item25 (model_of [] types.now properties.now [] [] [] [] [] []) (instance_of nodes.now slots.now items.now) k) 0 (item_count items.now)) × (result ≤ 2048) }
+// The first slot that breaks rule 24.
+pub fn first_24(model: &Model, instance: &Instance) -> Option<u16>
+    ensures value { result ≡ found (first_from (λ s. slot24 (model_read model.now) (instance_read instance.now) s) 0 (instance_read instance.now).slots) }
+    ensures bound { IfSome result (λ k. k < 1024) }
 {
-    let ancestors = all_ancestors(types);
-    let n = item_count(items);
-    let mut k: u16 = 0;
-    while k < n {
-        let property = item_property(slots, item_slots, k);
-        if item_25_of(types, properties, nodes, items, &ancestors, property, k) {
-            return k + 1;
-        }
-        k += 1;
-    }
-    0
+    (0..instance.slot_count()).find(|s| slot_24(model, instance, *s))
+}
+
+// The first item that breaks rule 25. `item_slots` has for each item the slot whose run has it.
+pub fn first_25(model: &Model, instance: &Instance, item_slots: &[u16]) -> Option<u16>
+    requires { Tabulates (λ k. slot_of_item (instance_read instance.now) k) 2048 item_slots.now }
+    ensures value { result ≡ found (first_from (λ k. item25 (model_read model.now) (instance_read instance.now) k) 0 (instance_read instance.now).items) }
+    ensures bound { IfSome result (λ k. k < 2048) }
+{
+    let hierarchy = Hierarchy::of(*model);
+    (0..instance.item_count()).find(|k| item_25(&hierarchy, instance, item_slots, *k))
 }

@@ -57,7 +57,7 @@ module _ (at : ℕ → ℕ) (n : ℕ) (old : List ℕ) where
   }
 
   module _ (p b : ℕ) (e l : List ℕ) (few : n ≤ 512) (low : p < n) (here : b ≡ at p) (small : b < 513) (f : Filled (p + 1) e l) where
-    filled_more : Filled p (set e (1024 + p) (get_or l b 0)) (set l b (p + 1))
+    pub filled_more : Filled p (set e (1024 + p) (get_or l b 0)) (set l b (p + 1))
     filled_more =
         let v = get_or l b 0 in
         record {
@@ -84,14 +84,6 @@ module _ (at : ℕ → ℕ) (n : ℕ) (old : List ℕ) where
     last = get_or-set_other e k 1536 v 0 (λ y. omega (arith, y, h)) ∙ f.last;
   }
 
-  pub filled_step : (q b : ℕ) (e l : List ℕ) → n ≤ 512 → 0 < q → q ≤ n → b ≡ at (q - 1) → b < 513 → Filled q e l → Filled (q - 1) (set e (1023 + q) (get_or l b 0)) (set l b q)
-  filled_step q b e l few some most here small f =
-      let h : q ≡ q - 1 + 1 = omega arith in
-      on (q - 1) h (filled_more (q - 1) b e l few (omega arith) here small (rw (← h) f))
-    where
-      on : (p : ℕ) → q ≡ p + 1 → Filled p (set e (1024 + p) (get_or l b 0)) (set l b (p + 1)) → Filled p (set e (1023 + q) (get_or l b 0)) (set l b q)
-      on p h f = let g : 1023 + q ≡ 1024 + p = omega arith in rw (g, h) f
-
 pub indexed : (properties names old index later : List ℕ) → property_count properties ≤ 512 → Ranked (λ p. name_of properties names p) (property_count properties) (get_or old 1536 0) old
     → Filled (λ p. get_or old (512 + p) 0) (property_count properties) old 0 index later → Indexed properties names index
 indexed properties names old index later few r f = record {
@@ -105,16 +97,13 @@ pub entry-small : (properties names old : List ℕ) → property_count propertie
     → (p : ℕ) → p < property_count properties → get_or old (512 + p) 0 < 513
 entry-small properties names old few r p h = omega (arith, small (λ p. name_of properties names p) (property_count properties) (get_or old 1536 0) old r p h)
 
-pub entry_read : (properties names old index later : List ℕ) (q : ℕ) → property_count properties ≤ 512 → 0 < q → q ≤ property_count properties
+pub entry_read : (properties names old index later : List ℕ) (p : ℕ) → property_count properties ≤ 512 → p < property_count properties
     → Ranked (λ p. name_of properties names p) (property_count properties) (get_or old 1536 0) old
-    → Filled (λ p. get_or old (512 + p) 0) (property_count properties) old q index later
-    → (get_or index (511 + q) 0 ≡ get_or old (512 + (q - 1)) 0) × (get_or index (511 + q) 0 < 513)
-entry_read properties names old index later q few some most r f =
-    let e : get_or index (511 + q) 0 ≡ get_or old (512 + (q - 1)) 0 = f.kept (511 + q) (omega arith) ∙ same-entry in
-    (e, rw e (entry-small properties names old few r (q - 1) (omega arith)))
-  where
-    same-entry : get_or old (511 + q) 0 ≡ get_or old (512 + (q - 1)) 0
-    same-entry = let g : 511 + q ≡ 512 + (q - 1) = omega arith in rw g
+    → Filled (λ p. get_or old (512 + p) 0) (property_count properties) old (p + 1) index later
+    → (get_or index (512 + p) 0 ≡ get_or old (512 + p) 0) × (get_or index (512 + p) 0 < 513)
+entry_read properties names old index later p few h r f =
+    let e : get_or index (512 + p) 0 ≡ get_or old (512 + p) 0 = f.kept (512 + p) (omega (arith, h, few)) in
+    (e, rw e (entry-small properties names old few r p h))
 
 -- ---- following the chain of a name
 module _ (properties names name : List ℕ) where
@@ -148,6 +137,3 @@ pub guess_start : (properties names index name : List ℕ) → Indexed propertie
     → (a : ℕ) → a ≡ get_or index (512 + p) 0 → a ≡ named_from properties names name 0
 guess_start properties names index name x p h b e t a q =
     alike-start properties names index x p h a q ∙ ap (λ (s : List ℕ). named_from properties names s 0) (same_sound _ _ (sym e ∙ t))
-
-pub guess_most : (properties names index : List ℕ) → property_count properties ≤ 512 → Indexed properties names index → (p : ℕ) → p < property_count properties → get_or index (512 + p) 0 ≤ 512
-guess_most properties names index few x p h = omega (arith, entry-small properties names index few x.ranked p h)

@@ -1,131 +1,123 @@
 -- The lookup of a name along the chain of the properties that have it. Assumes nothing.
-use Prim.Native.Nat.{ℕ, zero, suc, ◌+◌, ◌-◌, ◌≤◌, ◌<◌}
-use mathlib.Core.Path.{◌≡◌, refl, sym, subst}
+use Prim.Native.Nat.{ℕ, suc, ◌+◌, ◌-◌, ◌≤◌, ◌<◌}
+use mathlib.Core.Path.{◌≡◌, refl, sym, ap, ◌∙◌}
 use mathlib.Core.List.{List}
 use mathlib.Core.Bool.{Bool, true, false}
-use mathlib.Core.Logic.{⊎_elim}
-use native.Mathlib.Nat.{eq-or-lt_of_le}
+use native.Mathlib.Numerals.{add-one}
 use native.Mathlib.Omega.{arith}
 use lib.ListN.{get_or}
+use Rattle.std.proofs.Common.{Option, Some, None, IfSome}
 use Rattle.packed.specs.Bytes.{same}
-use Rattle.csdl.specs.Search.{any_from}
-use Rattle.csdl.specs.Tables.{property_count, property_owner}
-use Rattle.csdl.proofs.Logic.{none_any, below_or_not}
+use Rattle.csdl.specs.Search.{found}
+use Rattle.csdl.specs.Tables.{type_base, type_count, property_count, property_owner}
+use Rattle.csdl.specs.Model.{model_of}
+use Rattle.model_image.specs.Read.{model_read}
 use Rattle.name_classes.specs.Classes.{name_of}
+use Rattle.name_classes.proofs.Options.{number, found_none, found_some, found_low}
+use Rattle.name_classes.proofs.Ranks.{few_properties}
 use Rattle.type_hierarchy.specs.Near.{left_at, only}
-use Rattle.lookup.specs.Index.{named_from, Indexed}
+use Rattle.lookup.specs.declared.model.Lookup.{Lookup}
+use Rattle.lookup.specs.Index.{named_from}
 use Rattle.type_hierarchy.proofs.Near.{Near, near_start, near_nearer, near_farther, near_reach}
 use Rattle.lookup.proofs.Chain.{Reached, reached, ended, goes_on}
 
 -- How many numbers below n are left from the one that a chain is at.
-abbrev pub remaining : ℕ → ℕ → ℕ
-remaining n zero = 0
-remaining n (suc p) = suc (n - p)
+abbrev pub remaining : ℕ → Option ℕ → ℕ
+remaining n None = 0
+remaining n (Some p) = suc (n - p)
 
-remaining_less : (n p a : ℕ) → p < n → ((q : ℕ) → a ≡ suc q → (p + 1 ≤ q) × (q < n)) → remaining n a < remaining n (suc p)
-remaining_less n p zero h f = omega arith
-remaining_less n p (suc q) h f = let w = f q refl in omega (arith, w.0, w.1)
+remaining_less : (n p : ℕ) (a : Option ℕ) → p < n → ((q : ℕ) → a ≡ Some q → (p + 1 ≤ q) × (q < n)) → remaining n a < remaining n (Some p)
+remaining_less n p None h f = omega arith
+remaining_less n p (Some q) h f = let w = f q refl in omega (arith, w.0, w.1)
 
-module _ (properties names name index : List ℕ) (x : Indexed properties names index) where
+module _ (lookup : Lookup) (name : List ℕ) where
+  abbrev properties : List ℕ
+  properties = lookup.hierarchy.model.properties.now
+
+  abbrev names : List ℕ
+  names = lookup.hierarchy.model.names.now
+
+  abbrev named : ℕ → Bool
+  named q = same (name_of properties names q) name
+
   -- The chain of the name is at a, the first that has it from number `upto` on.
-  pub record On (a upto : ℕ) : Type 0 where
+  pub record On (a : Option ℕ) (upto : ℕ) : Type 0 where
     pub most : upto ≤ property_count properties
-    pub chain : a ≡ named_from properties names name upto
+    pub chain : a ≡ found (named_from properties names name upto)
 
-  pub on-start : (a : ℕ) → a ≡ named_from properties names name 0 → On a 0
+  pub on-start : (a : Option ℕ) → a ≡ found (named_from properties names name 0) → On a 0
   on-start a e = record { most = omega arith; chain = e }
 
-  module _ (a upto : ℕ) (o : On a upto) where
-    pub on_ended : a ≡ 0 → (j : ℕ) → upto ≤ j → j < property_count properties → same (name_of properties names j) name ≡ false
-    on_ended h = ended properties names name (upto) a o.most o.chain h
+  module _ (upto : ℕ) where
+    pub on_ended : On None upto → (j : ℕ) → upto ≤ j → j < property_count properties → named j ≡ false
+    on_ended o = ended properties names name upto _ o.most refl (found_none _ o.chain)
 
-    module _ (some : 0 < a) where
-      here : a ≡ suc (a - 1)
-      here = omega arith
+    module _ (p : ℕ) (o : On (Some p) upto) where
+      pub on-reach : Reached properties names name upto p
+      on-reach = reached properties names name upto _ o.most refl p (found_some _ p o.chain)
 
-      pub on-reach : Reached properties names name (upto) (a - 1)
-      on-reach = reached properties names name (upto) a o.most o.chain (a - 1) here
-
-      pub on_below : a - 1 < property_count properties
-      on_below = on-reach.below
-
-      module _ (next : ℕ) (e : next ≡ get_or index (1024 + (a - 1)) 0) where
-        pub on-next : On next (a - 1 + 1)
+      module _ (next : Option ℕ) (e : next ≡ found (get_or lookup.index (1024 + p) 0)) where
+        pub on-next : On next (p + 1)
         on-next = record {
-          most = omega (arith, on_below);
-          chain = goes_on properties names name index x (upto) (a - 1) on-reach next e;
+          most = omega (arith, on-reach.below);
+          chain = e ∙ ap found (goes_on properties names name lookup.index lookup.indexed upto p on-reach _ refl);
         }
 
-        pub on_less : remaining (property_count properties) next < remaining (property_count properties) a
-        on_less =
-            let f : (q : ℕ) → next ≡ suc q → (a - 1 + 1 ≤ q) × (q < property_count properties) = λ q h.
-            let r = reached properties names name (a - 1 + 1) next on-next.most on-next.chain q h in
-            (r.from, r.below) in
-            subst (λ (k : ℕ). remaining (property_count properties) next < remaining (property_count properties) k) (sym here) (remaining_less (property_count properties) (a - 1) next on_below f)
+        pub on_less : remaining (property_count properties) next < remaining (property_count properties) (Some p)
+        on_less = remaining_less (property_count properties) p next on-reach.below
+            (λ q h. let r = reached properties names name (p + 1) _ on-next.most refl q (found_some _ q (sym h ∙ on-next.chain)) in (r.from, r.below))
 
   -- ---- the nearest declaration: those before `upto` have been looked at
-  module _ (base : ℕ → ℕ) (all t : ℕ) where
-    abbrev NearTo : ℕ → ℕ → ℕ → Type 0
-    NearTo p found near = Near (λ q. property_owner properties q) (λ q. same (name_of properties names q) name) base all t p found near
+  module _ (t : ℕ) where
+    abbrev base : ℕ → ℕ
+    base u = type_base lookup.hierarchy.model.types.now u
 
-    pub record Looking (a found near : ℕ) : Type 0 where
+    abbrev all : ℕ
+    all = type_count lookup.hierarchy.model.types.now
+
+    abbrev NearTo : ℕ → Option ℕ → ℕ → Type 0
+    NearTo p nearest near = Near (λ q. property_owner properties q) (λ q. named q) (λ u. base u) all t p (number nearest) near
+
+    pub record Looking (a nearest : Option ℕ) (near : ℕ) : Type 0 where
       pub upto : ℕ
       pub on : On a upto
-      pub nearest : NearTo upto found near
+      pub looked : NearTo upto nearest near
 
-    pub looking_start : (a : ℕ) → On a 0 → Looking a 0 0
-    looking_start a o = record { upto = 0; on = o; nearest = near_start (λ q. property_owner properties q) (λ q. same (name_of properties names q) name) base all t }
+    pub looking_start : (a : Option ℕ) → On a 0 → Looking a None 0
+    looking_start a o = record { upto = 0; on = o; looked = near_start (λ q. property_owner properties q) (λ q. named q) (λ u. base u) all t }
 
-    module _ (a found near : ℕ) (l : Looking a found near) where
-      pub looking_end : a ≡ 0 → NearTo (property_count properties) found near
-      looking_end h =
-          near_reach (λ q. property_owner properties q) (λ q. same (name_of properties names q) name) base all t l.upto (property_count properties) found near l.on.most l.nearest
-          (on_ended a l.upto l.on h)
+    pub looking_end : (nearest : Option ℕ) (near : ℕ) → Looking None nearest near → NearTo (property_count properties) nearest near
+    looking_end nearest near l =
+        near_reach (λ q. property_owner properties q) (λ q. named q) (λ u. base u) all t l.upto (property_count properties) (number nearest) near l.on.most l.looked (on_ended l.upto l.on)
 
-      module _ (some : 0 < a) where
-        at_here : NearTo (a - 1) found near
-        at_here =
-            let r = on-reach a l.upto l.on some in
-            near_reach (λ q. property_owner properties q) (λ q. same (name_of properties names q) name) base all t l.upto (a - 1) found near r.from l.nearest r.skips
+    module _ (p : ℕ) (nearest : Option ℕ) (near : ℕ) (l : Looking (Some p) nearest near) where
+      at_here : NearTo p nearest near
+      at_here =
+          let r = on-reach l.upto p l.on in
+          near_reach (λ q. property_owner properties q) (λ q. named q) (λ u. base u) all t l.upto p (number nearest) near r.from l.looked r.skips
 
-        module _ (next : ℕ) (e : next ≡ get_or index (1024 + (a - 1)) 0) (left : ℕ) (g : left ≡ left_at (only (property_owner properties (a - 1))) base all t) where
-          named : true ≡ same (name_of properties names (a - 1)) name
-          named = sym (on-reach a l.upto l.on some).named
+      module _ (next : Option ℕ) (e : next ≡ found (get_or lookup.index (1024 + p) 0)) (left : ℕ) (g : left ≡ left_at (only (property_owner properties p)) (λ u. base u) all t) where
+        has_name : true ≡ named p
+        has_name = sym (on-reach l.upto p l.on).named
 
-          pub looking_nearer : near < left → Looking next a left
-          looking_nearer i =
-              let s : a - 1 + 1 ≡ a = omega arith in
-              subst (λ (k : ℕ). Looking next k left) s record { upto = a - 1 + 1; on = on-next a l.upto l.on some next e; nearest = near_nearer _ _ base all t (a - 1) found near at_here true left named refl g i }
+        pub looking_nearer : near < left → Looking next (Some p) left
+        looking_nearer i = record {
+          upto = p + 1;
+          on = on-next l.upto p l.on next e;
+          looked = rw (← add-one p) (near_nearer _ _ (λ u. base u) all t p (number nearest) near at_here true left has_name refl g i);
+        }
 
-          pub looking_farther : left ≤ near → Looking next found near
-          looking_farther i = record { upto = a - 1 + 1; on = on-next a l.upto l.on some next e; nearest = near_farther _ _ base all t (a - 1) found near at_here true left named refl g i }
+        pub looking_farther : left ≤ near → Looking next nearest near
+        looking_farther i = record {
+          upto = p + 1;
+          on = on-next l.upto p l.on next e;
+          looked = near_farther _ _ (λ u. base u) all t p (number nearest) near at_here true left has_name refl g i;
+        }
 
-  -- ---- a search among those that have the name: those before `upto` do not pass
-  module _ (test : ℕ → Bool) (named : (q : ℕ) → same (name_of properties names q) name ≡ false → test q ≡ false) where
-    pub record Searched (a : ℕ) : Type 0 where
-      pub upto : ℕ
-      pub on : On a upto
-      pub none : (q : ℕ) → q < upto → test q ≡ false
-
-    pub searched_start : (a : ℕ) → On a 0 → Searched a
-    searched_start a o = record { upto = 0; on = o; none = λ q h. absurd (omega (arith, h)) }
-
-    module _ (a : ℕ) (s : Searched a) where
-      below : (some : 0 < a) → (q : ℕ) → q < a - 1 → test q ≡ false
-      below some q h =
-          let r = on-reach a s.upto s.on some in
-          below_or_not q s.upto (λ l. s.none q l) (λ g. named q (r.skips q g h))
-
-      pub searched_next : (some : 0 < a) (next : ℕ) (e : next ≡ get_or index (1024 + (a - 1)) 0) → test (a - 1) ≡ false → Searched next
-      searched_next some next e f = record {
-        upto = a - 1 + 1;
-        on = on-next a s.upto s.on some next e;
-        none = λ q h. ⊎_elim (λ z. rw z f) (λ l. below some q l) (eq-or-lt_of_le (omega arith));
-      }
-
-      pub searched_end : (limit : ℕ) → limit ≤ property_count properties → (0 < a → limit ≤ a - 1) → any_from test 0 limit ≡ false
-      searched_end limit most stop = none_any test 0 limit (λ q l h. go a refl q (omega (arith, h)))
-        where
-          go : (b : ℕ) → a ≡ b → (q : ℕ) → q < limit → test q ≡ false
-          go zero e q h = below_or_not q s.upto (λ l. s.none q l) (λ g. named q (on_ended a s.upto s.on e q g (omega (arith, h, most))))
-          go (suc b) e q h = let some : 0 < a = omega (arith, e) in below some q (omega (arith, h, stop some))
+-- What is found of a name, and what it means, is a property.
+pub named_low : (lookup : Lookup) (name : List ℕ) (r : Option ℕ) → r ≡ found (named_from lookup.hierarchy.model.properties.now lookup.hierarchy.model.names.now name 0) → IfSome r (λ p. p < 512)
+unfolding model_read model_of
+named_low lookup name r e =
+    let n : ℕ = property_count lookup.hierarchy.model.properties.now in
+    let few : n ≤ 512 = few_properties lookup.hierarchy.model in
+    rw e (found_low _ (n - 0) 512 (omega arith))

@@ -6,11 +6,12 @@ use mathlib.Core.Bool.{true, false}
 use native.Mathlib.Omega.{arith}
 use lib.ListN.{length, drop}
 use borrow.Author.Tests.{lt-ltb, le-ltb}
+use Rattle.std.proofs.Common.{Ok, Err}
 use Rattle.csdl.specs.Image.{model_in, header, image1, buffer2}
 use Rattle.csdl.specs.Verdict.{Answer, verdict, model_means, model_verdict, model_then, model_answer, model_buffer, resolution}
 use Rattle.csdl.specs.Verdict.Answer.{accepted, refused}
-use Rattle.csdl.specs.declared.ModelAnswer.{ModelAnswer}
-use Rattle.csdl.specs.declared.ModelAnswer.TheVariants.{Accepted, Refused}
+use Rattle.csdl.specs.Accepted.{ModelPasses}
+use Rattle.csdl.specs.declared.Refusal.{Refusal}
 use Rattle.csdl.proofs.Verdicts.{model_then_accepts}
 use Rattle.model_image.proofs.Parts.{layout, counts}
 use Rattle.rules_segments.specs.Kept.{Resolvable}
@@ -19,82 +20,78 @@ use Rattle.path_resolution.specs.Coded.{Coded}
 use Rattle.path_resolution.specs.Written.{code_bytes}
 use Rattle.model_check.proofs.Whole.{codes_resolution}
 
--- What follows rules 3 to 19 in the check.
-abbrev counted : List ℕ → Answer
-counted image = accepted ((model_in image).segments ∷ [])
-
-module _ (image : List ℕ) (other : Answer) where
-  pub then_bad : image1 image ≡ true → model_means (Refused 1 0) ≡ model_then image other
-  unfolding model_means model_then verdict
-  then_bad e = rw e
-
-  pub then_good : image1 image ≡ false → model_then image other ≡ model_verdict (model_in image) other
+module _ (image : List ℕ) where
+  pub then_bad : image1 image ≡ true → (o : Answer) → refused 1 0 ≡ model_then image o
   unfolding model_then verdict
-  then_good e = rw e
+  then_bad e o = rw e
+
+  pub then_good : image1 image ≡ false → (o : Answer) → model_then image o ≡ model_verdict (model_in image) o
+  unfolding model_then verdict
+  then_good e o = rw e
+
+  -- A check that lets every answer follow found nothing broken.
+  pub passes : ((o : Answer) → o ≡ model_then image o) → ModelPasses image
+  passes a = ((model_then_accepts image (accepted []) []).0 (sym (a (accepted [])))).0
 
 module _ (image buffer : List ℕ) where
-  -- Rule 2, by the header's count of segments.
-  pub short : (h : ℕ) → h ≡ header image 8 → length buffer < 2 * h → buffer2 image buffer ≡ true
-  unfolding buffer2
-  short h e l = rw (← e) (lt-ltb (length buffer) (2 * h) l)
-
-  pub roomy : (h : ℕ) → h ≡ header image 8 → 2 * h ≤ length buffer → buffer2 image buffer ≡ false
-  unfolding buffer2
-  roomy h e l = rw (← e) (le-ltb (length buffer) (2 * h) l)
-
-  left_alone : (rule place : ℕ) → model_answer image buffer ≡ refused rule place → buffer ≡ model_buffer image buffer
-  unfolding model_buffer
-  left_alone rule place e = rw e
-
-  written : (values : List ℕ) → model_answer image buffer ≡ accepted values → resolution (model_in image) ++ drop (2 * (model_in image).segments) buffer ≡ model_buffer image buffer
-  unfolding model_buffer
-  written values e = rw e
+  refusal : (r : Refusal) → model_answer image buffer ≡ refused r.rule r.place → (model_means (Err r) ≡ model_answer image buffer) × (buffer ≡ model_buffer image buffer)
+  unfolding model_means model_buffer
+  refusal r e = (sym e, rw e)
 
   bad : image1 image ≡ true → model_answer image buffer ≡ refused 1 0
   unfolding model_answer verdict
   bad e = rw e
 
-  pub answer_bad : image1 image ≡ true → (model_means (Refused 1 0) ≡ model_answer image buffer) × (buffer ≡ model_buffer image buffer)
-  unfolding model_means
-  answer_bad e = (sym (bad e), left_alone 1 0 (bad e))
+  pub answer_bad : image1 image ≡ true → (model_means (Err (record { rule = 1; place = 0 })) ≡ model_answer image buffer) × (buffer ≡ model_buffer image buffer)
+  answer_bad e = refusal _ (bad e)
 
   module _ (good : image1 image ≡ false) where
+    -- Rule 2, by the count of segments.
+    module _ {s : ℕ} (e : s ≡ (model_in image).segments) where
+      count-is : header image 8 ≡ s
+      count-is = sym (e ∙ (counts image (layout image good)).segments)
+
+      pub short : length buffer < 2 * s → buffer2 image buffer ≡ true
+      unfolding buffer2
+      short l = rw count-is (lt-ltb (length buffer) (2 * s) l)
+
+      pub roomy : 2 * s ≤ length buffer → buffer2 image buffer ≡ false
+      unfolding buffer2
+      roomy l = rw count-is (le-ltb (length buffer) (2 * s) l)
+
     no_room : buffer2 image buffer ≡ true → model_answer image buffer ≡ refused 2 0
     unfolding model_answer verdict
     no_room e = rw (good, e)
 
-    pub answer_short : buffer2 image buffer ≡ true → (model_means (Refused 2 0) ≡ model_answer image buffer) × (buffer ≡ model_buffer image buffer)
-    unfolding model_means
-    answer_short e = (sym (no_room e), left_alone 2 0 (no_room e))
+    pub answer_short : buffer2 image buffer ≡ true → (model_means (Err (record { rule = 2; place = 0 })) ≡ model_answer image buffer) × (buffer ≡ model_buffer image buffer)
+    answer_short e = refusal _ (no_room e)
 
-    module _ (room : buffer2 image buffer ≡ false) (r : ModelAnswer) (means : model_means r ≡ model_verdict (model_in image) (counted image)) where
-      rules : model_answer image buffer ≡ model_means r
+    module _ (room : buffer2 image buffer ≡ false) where
+      rules : model_answer image buffer ≡ model_verdict (model_in image) (accepted ((model_in image).segments ∷ []))
       unfolding model_answer verdict
-      rules = rw (good, room) (sym means)
+      rules = rw (good, room)
 
-      pub answer_refused : (rule place : ℕ) → r ≡ Refused rule place → (model_means r ≡ model_answer image buffer) × (buffer ≡ model_buffer image buffer)
-      unfolding model_means
-      answer_refused rule place e = (sym rules, left_alone rule place (rules ∙ rw e))
+      pub answer_refused : (r : Refusal) → ((o : Answer) → refused r.rule r.place ≡ model_verdict (model_in image) o)
+          → (model_means (Err r) ≡ model_answer image buffer) × (buffer ≡ model_buffer image buffer)
+      answer_refused r a = refusal r (rules ∙ sym (a _))
 
-      pub answer_accepted : (s : ℕ) → r ≡ Accepted s → (out : List ℕ) → out ≡ resolution (model_in image) ++ drop (2 * (model_in image).segments) buffer
-          → (model_means r ≡ model_answer image buffer) × (out ≡ model_buffer image buffer)
-      unfolding model_means
-      answer_accepted s e out w = (sym rules, w ∙ written (s ∷ []) (rules ∙ rw e))
+      module _ (a : (o : Answer) → o ≡ model_verdict (model_in image) o) where
+        accepts : model_answer image buffer ≡ accepted ((model_in image).segments ∷ [])
+        accepts = rules ∙ sym (a _)
 
--- What is written of a model that is accepted is its resolution, and a buffer that keeps rule 2 has room for it.
-module _ (image : List ℕ) (good : image1 image ≡ false) (h : ℕ) (e : h ≡ header image 8) where
-  count-is : h ≡ (model_in image).segments
-  count-is = let k = counts image (layout image good) in omega (arith, k.segments)
+        can_resolve : Resolvable (model_in image)
+        can_resolve =
+            let p = passes image (λ o. a o ∙ sym (then_good image good o)) in
+            let l = layout image good in
+            let n = counts image l in
+            resolvable (model_in image) p.model_kept.kept4 p.model_kept.kept13 (omega (arith, n.types, l.types)) (omega (arith, n.properties, l.properties))
 
-  can_resolve : (r : ModelAnswer) (s : ℕ) → model_means r ≡ model_verdict (model_in image) (counted image) → r ≡ Accepted s → Resolvable (model_in image)
-  unfolding model_means
-  can_resolve r s means a =
-      let v : model_then image (counted image) ≡ accepted (s ∷ []) = then_good image (counted image) good ∙ (sym means ∙ rw a) in
-      let p = ((model_then_accepts image (counted image) (s ∷ [])).0 v).0 in
-      let l = layout image good in
-      let n = counts image l in
-      resolvable (model_in image) p.model_kept.kept4 p.model_kept.kept13 (omega (arith, n.types, l.types)) (omega (arith, n.properties, l.properties))
+        module _ (s : ℕ) (e : s ≡ (model_in image).segments) where
+          pub answer_accepted : model_means (Ok s) ≡ model_answer image buffer
+          unfolding model_means
+          answer_accepted = rw e (sym accepts)
 
-  pub written_codes : (r : ModelAnswer) (s : ℕ) → model_means r ≡ model_verdict (model_in image) (counted image) → r ≡ Accepted s → (codes : List ℕ) → Coded (model_in image) codes
-      → (buffer : List ℕ) → code_bytes codes h ++ drop (2 * h) buffer ≡ resolution (model_in image) ++ drop (2 * (model_in image).segments) buffer
-  written_codes r s means a codes c buffer = rw (count-is, codes_resolution (model_in image) (can_resolve r s means a) codes c)
+          -- What is written is the resolution.
+          pub written : {codes out : List ℕ} → Coded (model_in image) codes → out ≡ code_bytes codes s ++ drop (2 * s) buffer → out ≡ model_buffer image buffer
+          unfolding model_buffer
+          written {codes} c w = w ∙ rw (e, codes_resolution (model_in image) can_resolve codes c, accepts)

@@ -1,3 +1,3 @@
 pub mod Whole
+pub mod Steps
 pub mod AnswerLaws
-pub mod Then

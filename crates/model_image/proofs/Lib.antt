@@ -1,3 +1,3 @@
 pub mod Chain
-pub mod Laid
+pub mod PlaceLaws
 pub mod Parts

@@ -1,4 +1,5 @@
 pub mod Counted
-pub mod Laid
+pub mod Places
 pub mod Limits
 pub mod Sized
+pub mod Read

@@ -1,7 +1,6 @@
-// The model image: its header and rule 1 (`image`); where its tables begin, each table as a part of the image, and the record at a place (`layout`);
-// for each table one function a field, by the number of the record; names and paths as fields (`fields`); the names of
-// records as parts of the name bytes (`texts`); small functions on numbers (`numbers`).
-#![tactic(auto)]
+// The model image: its header and rule 1 (`image`); the model in it (`model`, `read`), with one method a field of each table, by the number of the
+// record; names and paths as fields (`fields`); the names of records as parts of the name bytes (`texts`); the places of records (`places`).
+#![tactic(auto, unfolding(crate::specs::Read::model_read, csdl::specs::Model::model_of))]
 
 pub mod bindings;
 pub mod children;
@@ -9,9 +8,10 @@ pub mod constraints;
 pub mod fields;
 pub mod image;
 pub mod keys;
-pub mod layout;
-pub mod numbers;
+pub mod model;
+pub mod places;
 pub mod properties;
+pub mod read;
 pub mod schemas;
 pub mod segments;
 pub mod texts;

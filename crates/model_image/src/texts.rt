@@ -1,48 +1,45 @@
 // The names of records as parts of the name bytes.
 ghost use Rattle.std.specs.Prelude.{◌≡◌};
-ghost use Rattle.packed.specs.Bytes.{part};
-ghost use Rattle.csdl.specs.Tables.{schema_namespace, type_name, property_name, key_alias, child_name, segment_name};
+ghost use Rattle.csdl.specs.Model as models;
+ghost use Rattle.model_image.specs.Read.{model_read};
 
-use crate::children::child_name;
 use crate::fields::text_of;
-use crate::keys::key_alias;
-use crate::properties::property_name;
-use crate::schemas::schema_namespace;
-use crate::segments::segment_name;
-use crate::types::type_name;
+use crate::model::Model;
 
-pub fn namespace_text<'a>(schemas: &[u8], names: &'a [u8], s: u16) -> &'a [u8]
-    ensures { result.now ≡ part names.now (schema_namespace schemas.now s).start (schema_namespace schemas.now s).size }
-{
-    text_of(names, schema_namespace(schemas, s))
-}
+impl<'a> Model<'a> {
+    pub fn namespace_text(&self, s: u16) -> &'a [u8]
+        ensures { result.now ≡ models.namespace_text (model_read self.now) s }
+    {
+        text_of(self.names, self.schema_namespace(s))
+    }
 
-pub fn type_text<'a>(types: &[u8], names: &'a [u8], t: u16) -> &'a [u8]
-    ensures { result.now ≡ part names.now (type_name types.now t).start (type_name types.now t).size }
-{
-    text_of(names, type_name(types, t))
-}
+    pub fn type_text(&self, t: u16) -> &'a [u8]
+        ensures { result.now ≡ models.type_text (model_read self.now) t }
+    {
+        text_of(self.names, self.type_name(t))
+    }
 
-pub fn property_text<'a>(properties: &[u8], names: &'a [u8], p: u16) -> &'a [u8]
-    ensures { result.now ≡ part names.now (property_name properties.now p).start (property_name properties.now p).size }
-{
-    text_of(names, property_name(properties, p))
-}
+    pub fn property_text(&self, p: u16) -> &'a [u8]
+        ensures { result.now ≡ models.property_text (model_read self.now) p }
+    {
+        text_of(self.names, self.property_name(p))
+    }
 
-pub fn key_alias_text<'a>(keys: &[u8], names: &'a [u8], k: u16) -> &'a [u8]
-    ensures { result.now ≡ part names.now (key_alias keys.now k).start (key_alias keys.now k).size }
-{
-    text_of(names, key_alias(keys, k))
-}
+    pub fn key_alias_text(&self, k: u16) -> &'a [u8]
+        ensures { result.now ≡ models.key_alias_text (model_read self.now) k }
+    {
+        text_of(self.names, self.key_alias(k))
+    }
 
-pub fn child_text<'a>(children: &[u8], names: &'a [u8], h: u16) -> &'a [u8]
-    ensures { result.now ≡ part names.now (child_name children.now h).start (child_name children.now h).size }
-{
-    text_of(names, child_name(children, h))
-}
+    pub fn child_text(&self, h: u16) -> &'a [u8]
+        ensures { result.now ≡ models.child_text (model_read self.now) h }
+    {
+        text_of(self.names, self.child_name(h))
+    }
 
-pub fn segment_text<'a>(segments: &[u8], names: &'a [u8], g: u16) -> &'a [u8]
-    ensures { result.now ≡ part names.now (segment_name segments.now g).start (segment_name segments.now g).size }
-{
-    text_of(names, segment_name(segments, g))
+    pub fn segment_text(&self, g: u16) -> &'a [u8]
+        ensures { result.now ≡ models.segment_text (model_read self.now) g }
+    {
+        text_of(self.names, self.segment_name(g))
+    }
 }

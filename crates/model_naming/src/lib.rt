@@ -27,7 +27,7 @@ pub fn name_place(image: &[u8], place: u32) -> NamePlace
     let name = record_name(image, place);
     let start = from + name.start as u32;
     NamePlace {
-        start: start,
+        start,
         size: name.size,
     }
 }

@@ -1,7 +1,4 @@
-pub mod Finding
-pub mod Order
+pub mod Steps
 pub mod Tables
-pub mod Along
+pub mod Placed
 pub mod Coded
-pub mod Found
-pub mod Last

@@ -9,31 +9,35 @@ use native.Mathlib.Omega.{arith}
 use lib.Dec.{ltb}
 use lib.ListN.{length, get_or, set, length-set, replicate, length-replicate}
 use lib.Seq.{get_or-set_same, get_or-set_other}
+use Rattle.std.specs.Prelude.{None}
+use Rattle.std.specs.Bool.{then_some}
 use borrow.Author.Tests.{ltb-true, lt-ltb, le-ltb}
 use Rattle.packed.specs.Bytes.{same}
 use Rattle.packed.proofs.Laws.{same_sound, same_complete}
 use Rattle.name_classes.specs.Order.{before}
-use Rattle.csdl.specs.Search.{one_if, any_from, sum_from, count_from}
+use Rattle.csdl.specs.Search.{one_if, any_from, sum_from, count_from, found}
 use Rattle.csdl.proofs.Logic.{any_found, any_of, not_so, sum_same, below_or_not, equal_or_not, count_next}
 use Rattle.name_classes.specs.Classes.{is_first, Sorted, Stands, first_at, Inserted, Ranked}
 use Rattle.name_classes.proofs.Before.{before_trans, before_neither, apart}
+use Rattle.name_classes.proofs.Placed.{placed, stands_at}
 use Rattle.name_classes.proofs.Counting.{sum_insert}
 use Rattle.name_classes.proofs.Sorting.{entry_in, sorted_more}
 
 -- ---- the property at a place, as the code asks for it
+module _ (name : ℕ → List ℕ) (order : List ℕ) (at : ℕ) (x : List ℕ) where
+  pub at_within : (p : ℕ) (b : Bool) → at < length order → p ≡ get_or order at 0 → b ≡ same (name p) x → then_some b p ≡ found (first_at name order (length order) at x)
+  unfolding first_at
+  at_within p b l g e = rw (lt-ltb at (length order) l, ← g, ← e) (by_test b)
+    where
+      by_test : (b : Bool) → then_some b p ≡ found (cond b (suc p) 0)
+      by_test true = refl
+      by_test false = refl
+
+  pub at_past : length order ≤ at → None ≡ found (first_at name order (length order) at x)
+  unfolding first_at
+  at_past h = rw (le-ltb at (length order) h)
+
 module _ (name : ℕ → List ℕ) (order : List ℕ) (firsts at : ℕ) (x : List ℕ) where
-  pub at_here : (b : Bool) → b ≡ same (name (get_or order at 0)) x → at < firsts → b ≡ true → suc (get_or order at 0) ≡ first_at name order firsts at x
-  unfolding first_at
-  at_here b e h t = rw (lt-ltb at firsts h, ← e, t)
-
-  pub at_other : (b : Bool) → b ≡ same (name (get_or order at 0)) x → at < firsts → b ≡ false → 0 ≡ first_at name order firsts at x
-  unfolding first_at
-  at_other b e h t = rw (lt-ltb at firsts h, ← e, t)
-
-  pub at_past : firsts ≤ at → 0 ≡ first_at name order firsts at x
-  unfolding first_at
-  at_past h = rw (le-ltb at firsts h)
-
   none : (p : ℕ) → 0 ≡ suc p → ⊥
   none p q = omega arith
 
@@ -107,9 +111,9 @@ module _ (name : ℕ → List ℕ) where
           sorted = λ i j l m. rw (lows i (omega arith), lows j m) (f.sorted i j l m);
           below = λ i l. rw (lows i l) (omega (arith, f.below i l));
           first = λ i l. rw (lows i l) (f.first i l);
-          stands = λ q l. equal_or_not q p
+          stands = λ q l. stands_at name _ _ q (equal_or_not q p
               (λ z. (at, w.below, rw (z, new index h f.size, lows at w.below) (omega (arith, n, w.number)), rw (z, lows at w.below) w.has))
-              (λ m. let s = f.stands q (omega (arith, l, m)) in (s.0, s.1, rw (old index h f.size (512 + q) (λ y. m (omega (arith, y))), lows s.0 s.1) s.2, rw (lows s.0 s.1) s.3));
+              (λ m. let s = placed name p firsts index f q (omega (arith, l, m)) in (s.0, s.1, rw (old index h f.size (512 + q) (λ y. m (omega (arith, y))), lows s.0 s.1) s.2, rw (lows s.0 s.1) s.3)));
         }
 
     module _ (at h : ℕ) (e : h ≡ first_at name index firsts at (name p)) (z : h ≡ 0) (s : Stands name index firsts (name p) at) (next : List ℕ) (n : Inserted index firsts at p next) where
@@ -133,7 +137,7 @@ module _ (name : ℕ → List ℕ) where
       fresh i l q = below_or_not i at (λ m. apart _ _ (s.front i m) q) (λ m. apart _ _ (behind i m l) (sym q))
 
       unnamed : (q : ℕ) → q < p → name q ≡ name p → ⊥
-      unnamed q l y = let w = f.stands q l in fresh w.0 w.1 (w.3 ∙ y)
+      unnamed q l y = let w = placed name p firsts index f q l in fresh w.0 w.1 (w.3 ∙ y)
 
       last : List ℕ
       last = set next (512 + p) (p + 1)
@@ -190,9 +194,9 @@ module _ (name : ℕ → List ℕ) where
         sorted = ordered;
         below = λ i l. entry i l (λ x u. rw u (omega (arith, f.below i (omega (arith, x, s.most))))) (λ x u. rw u (omega arith)) (λ x u. rw u (omega (arith, f.below (i - 1) (omega (arith, x, l)))));
         first = λ i l. entry i l (λ x u. rw u (f.first i (omega (arith, x, s.most)))) (λ x u. rw u unnamed) (λ x u. rw u (f.first (i - 1) (omega (arith, x, l))));
-        stands = λ q l. equal_or_not q p
+        stands = λ q l. stands_at name _ _ q (equal_or_not q p
             (λ y. (at, omega (arith, s.most), rw (y, new_entry, new_place) (add-one p), rw (y, new_place)))
-            (λ m. let w = f.stands q (omega (arith, l, m)) in let k = place w.0 w.1 in (k.0, k.1, rw (old_entry q (omega (arith, l, m)), k.2) w.2, rw k.2 w.3));
+            (λ m. let w = placed name p firsts index f q (omega (arith, l, m)) in let k = place w.0 w.1 in (k.0, k.1, rw (old_entry q (omega (arith, l, m)), k.2) w.2, rw k.2 w.3)));
       }
 
       pub ranked_new : Ranked name (p + 1) (firsts + 1) (set next (512 + p) (p + 1))
@@ -212,5 +216,5 @@ module _ (name : ℕ → List ℕ) where
         sorted = λ i j l m. rw (lows i (omega arith), lows j m) (f.sorted i j l m);
         below = λ i l. rw (lows i l) (f.below i l);
         first = λ i l. rw (lows i l) (f.first i l);
-        stands = λ q l. let w = f.stands q l in (w.0, w.1, rw (low (512 + q) (omega (arith, l)), lows w.0 w.1) w.2, rw (lows w.0 w.1) w.3);
+        stands = λ q l. let w = placed name n firsts index f q l in stands_at name _ _ q (w.0, w.1, rw (low (512 + q) (omega (arith, l)), lows w.0 w.1) w.2, rw (lows w.0 w.1) w.3);
       }

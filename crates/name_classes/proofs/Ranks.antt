@@ -5,15 +5,20 @@ use mathlib.Core.List.{List}
 use mathlib.Core.Bool.{Bool, true, false, false≢true, and-true}
 use native.Mathlib.Omega.{arith}
 use lib.Dec.{eqb}
-use lib.ListN.{length, get_or}
+use lib.ListN.{length, get_or, take}
+use Rattle.std.proofs.lemmas.List.{get_or-take, length-take-le}
 use borrow.Author.Tests.{eq-eqb, eqb-true}
 use Rattle.packed.specs.Bytes.{same}
 use Rattle.packed.proofs.Laws.{same_sound, same_complete}
 use Rattle.csdl.specs.Search.{first_from, one_if}
 use Rattle.csdl.proofs.Logic.{not_so, first-is, none_first, sum_same, below_or_not, equal_or_not}
+use Rattle.csdl.specs.Model.{model_of}
+use Rattle.model_image.specs.Read.{model_read}
+use Rattle.model_image.specs.declared.model.Model.{Model}
 use Rattle.name_classes.specs.Order.{before}
 use Rattle.name_classes.specs.Classes.{is_first, name_count, name_rank, Sorted, Stands, first_at, Ranked}
 use Rattle.name_classes.proofs.Before.{before_trans, before_self, apart}
+use Rattle.name_classes.proofs.Placed.{Placed, placed, stands_at}
 use Rattle.name_classes.proofs.Counting.{count-front}
 use Rattle.name_classes.proofs.Filling.{Found, at_found, at_none}
 
@@ -26,17 +31,24 @@ one_place name order firsts sorted i j h k e = equal_or_not i j (λ z. z) (λ z.
 
 module _ (name : ℕ → List ℕ) (n firsts : ℕ) (index : List ℕ) (f : Ranked name n firsts index) where
   pub small : (p : ℕ) → p < n → get_or index (512 + p) 0 ≤ n
-  small p h = let w = f.stands p h in rw w.2 (omega (arith, f.below w.0 w.1))
+  small p h = let w = placed name n firsts index f p h in rw w.2 (omega (arith, f.below w.0 w.1))
+
+  -- The entries of the order, as a list of their own.
+  pub whole : n ≤ 512 → firsts ≤ length index
+  whole few = omega (arith, f.size, f.most)
+
+  pub low_entries : n ≤ 512 → (i : ℕ) → i < length (take firsts index) → get_or (take firsts index) i 0 < 512
+  low_entries few i l = let h : i < firsts = omega (arith, l, length-take-le firsts index (whole few)) in rw (get_or-take firsts index i 0 h) (omega (arith, f.below i h))
 
   -- Two properties have the same entry exactly when they have the same name.
   pub same_class : (p q : ℕ) → p < n → q < n → eqb (get_or index (512 + p) 0) (get_or index (512 + q) 0) ≡ same (name p) (name q)
   same_class p q h k = go (same (name p) (name q)) refl
     where
-      a : (i : ℕ) × (i < firsts) × (get_or index (512 + p) 0 ≡ suc (get_or index i 0)) × (name (get_or index i 0) ≡ name p)
-      a = f.stands p h
+      a : Placed name index firsts p
+      a = placed name n firsts index f p h
 
-      b : (i : ℕ) × (i < firsts) × (get_or index (512 + q) 0 ≡ suc (get_or index i 0)) × (name (get_or index i 0) ≡ name q)
-      b = f.stands q k
+      b : Placed name index firsts q
+      b = placed name n firsts index f q k
 
       go : (r : Bool) → same (name p) (name q) ≡ r → eqb (get_or index (512 + p) 0) (get_or index (512 + q) 0) ≡ r
       go true e =
@@ -56,7 +68,7 @@ module _ (name : ℕ → List ℕ) (n firsts : ℕ) (index : List ℕ) (f : Rank
       (λ j a b. differ (name j) x (λ y. f.first i h j b (y ∙ sym e)))
 
   pub entry_first : (p : ℕ) → p < n → get_or index (512 + p) 0 ≡ first_from (λ q. same (name q) (name p)) 0 n
-  entry_first p h = let w = f.stands p h in w.2 ∙ sym (place_leads w.0 w.1 (name p) w.3)
+  entry_first p h = let w = placed name n firsts index f p h in w.2 ∙ sym (place_leads w.0 w.1 (name p) w.3)
 
   -- There are as many names as entries; the entry at a place is the first property whose name has so many names before it.
   pub firsts_count : firsts ≡ name_count name n
@@ -72,7 +84,7 @@ module _ (name : ℕ → List ℕ) (n firsts : ℕ) (index : List ℕ) (f : Rank
   place-first i l =
       sym (first-is (λ p. eqb (name_rank name n (name p)) i) 0 n (get_or index i 0) (omega arith) (omega (arith, f.below i l)) (eq-eqb _ _ (rank_of i l))
       (λ q a h. not_so _ (λ t.
-      let w = f.stands q (omega (arith, h, f.below i l)) in
+      let w = placed name n firsts index f q (omega (arith, h, f.below i l)) in
       let z : w.0 ≡ i = sym (rank_of w.0 w.1) ∙ ap (λ (x : List ℕ). name_rank name n x) w.3 ∙ eqb-true _ _ t in
       f.first i l q h (sym w.3 ∙ ap (λ (k : ℕ). name (get_or index k 0)) z))))
 
@@ -91,11 +103,16 @@ module _ (name : ℕ → List ℕ) (n firsts : ℕ) (index : List ℕ) (f : Rank
 
     pub search_first : r ≡ first_from (λ q. same (name q) x) 0 n
     search_first = equal_or_not r 0
-        (λ z. z ∙ sym (none_first (λ q. same (name q) x) 0 n (λ q a b. differ (name q) x (λ y. let w = f.stands q (omega (arith, b)) in absent z w.0 w.1 (w.3 ∙ y)))))
+        (λ z. z ∙ sym (none_first (λ q. same (name q) x) 0 n (λ q a b. differ (name q) x (λ y. let w = placed name n firsts index f q (omega (arith, b)) in absent z w.0 w.1 (w.3 ∙ y)))))
         (λ z. let w = at_found name index firsts at x r e z in found w (sym (place_leads at w.below x w.has)) z)
       where
         found : Found name index firsts at x r → suc (get_or index at 0) ≡ first_from (λ q. same (name q) x) 0 n → (r ≡ 0 → ⊥) → r ≡ first_from (λ q. same (name q) x) 0 n
         found w y z = let g : r ≡ suc (get_or index at 0) = omega (arith, w.number, z) in g ∙ y
+
+-- A model has no more properties than an index holds.
+pub few_properties : (model : Model) → (model_read model).properties ≤ 512
+unfolding model_read model_of
+few_properties model = omega (arith, model.few_properties)
 
 -- The ranks in a list that has the same entries.
 pub ranked-kept : (name : ℕ → List ℕ) (n : ℕ) (old index : List ℕ) → n ≤ 512 → length index ≡ 1793 → get_or index 1536 0 ≡ get_or old 1536 0 → ((i : ℕ) → i < 1024 → get_or index i 0 ≡ get_or old i 0)
@@ -109,5 +126,5 @@ ranked-kept name n old index few size e low f =
       sorted = λ i j l m. rw (lows i (omega arith), lows j m) (f.sorted i j l m);
       below = λ i l. rw (lows i l) (f.below i l);
       first = λ i l. rw (lows i l) (f.first i l);
-      stands = λ q l. let w = f.stands q l in (w.0, w.1, rw (low (512 + q) (omega (arith, l)), lows w.0 w.1) w.2, rw (lows w.0 w.1) w.3);
+      stands = λ q l. let w = placed name n (get_or old 1536 0) old f q l in stands_at name _ _ q (w.0, w.1, rw (low (512 + q) (omega (arith, l)), lows w.0 w.1) w.2, rw (lows w.0 w.1) w.3);
     }

@@ -1,94 +1,64 @@
 -- First properties in the order of their names. Assumes nothing.
 use Prim.Native.Nat.{ℕ, suc, ◌+◌, ◌-◌, ◌≤◌, ◌<◌}
-use mathlib.Core.Path.{◌≡◌, refl, sym, ◌∙◌}
+use mathlib.Core.Path.{◌≡◌, refl, ◌∙◌}
 use mathlib.Core.List.{List}
-use mathlib.Core.Bool.{Bool, true, false, false≢true}
+use mathlib.Core.Bool.{true, false}
 use native.Mathlib.Omega.{arith}
-use lib.ListN.{length, get_or, set, length-set}
+use lib.ListN.{length, get_or, set, take, length-set}
 use lib.Seq.{get_or-set_same, get_or-set_other}
+use Rattle.std.proofs.lemmas.List.{get_or_default, get_or-take, length-take-le}
+use Rattle.std.specs.List.{CopiedTo, SameBelow, SameFrom}
+use Rattle.std.specs.List.Sorted.{IsPartitionedBy, IsPartitionPoint}
 use borrow.Author.Tests.{eq-eqb, ne_eqb, lt-ltb, le-ltb, le-leb, lt-leb}
 use Rattle.csdl.proofs.Logic.{equal_or_not, below_or_not}
 use Rattle.name_classes.specs.Order.{before}
-use Rattle.name_classes.specs.Classes.{Sorted, Stands, Inserted, entry_after}
+use Rattle.name_classes.specs.Classes.{Sorted, Stands, first_at, Inserted, entry_after}
 use Rattle.name_classes.proofs.Before.{before_trans}
 
--- ---- halving: what is known of the entries below `low` and from `high` on
-module _ (name : ℕ → List ℕ) (order : List ℕ) (firsts : ℕ) (sorted : Sorted name order firsts) (x : List ℕ) where
-  pub record Between (low high : ℕ) : Type 0 where
-    pub ordered : low ≤ high
-    pub most : high ≤ firsts
-    pub front : (i : ℕ) → i < low → before (name (get_or order i 0)) x ≡ true
-    pub back : (i : ℕ) → high ≤ i → i < firsts → before (name (get_or order i 0)) x ≡ false
+-- ---- the first entries as a list of their own, and what `partition_point` answers over it
+module _ (name : ℕ → List ℕ) (order : List ℕ) (firsts : ℕ) (whole : firsts ≤ length order) where
+  part_size : length (take firsts order) ≡ firsts
+  part_size = length-take-le firsts order whole
 
-  pub between_start : Between 0 firsts
-  between_start = record { ordered = omega arith; most = omega arith; front = λ i h. absurd (omega arith); back = λ i h k. absurd (omega arith) }
+  pub part_same : (i : ℕ) → i < firsts → get_or (take firsts order) i 0 ≡ get_or order i 0
+  part_same i h = get_or-take firsts order i 0 h
 
-  module _ (low high mid : ℕ) (w : Between low high) (l : low ≤ mid) (h : mid < high) (r : Bool) (e : r ≡ before (name (get_or order mid 0)) x) where
-    pub between_up : r ≡ true → Between (mid + 1) high
-    between_up t = record {
-      ordered = omega arith;
-      most = w.most;
-      front = λ i k. equal_or_not i mid (λ z. rw z (sym e ∙ t)) (λ n. before_trans _ (name (get_or order mid 0)) _ (sorted i mid (omega (arith, n)) (omega (arith, w.most))) (sym e ∙ t));
-      back = w.back;
-    }
+  pub sorted_part : Sorted name order firsts → Sorted name (take firsts order) (length (take firsts order))
+  sorted_part sorted i j l h = let m : j < firsts = omega (arith, h, part_size) in rw (part_same i (omega arith), part_same j m) (sorted i j l m)
 
-    pub between_down : r ≡ false → Between low mid
-    between_down t = record {
-      ordered = l;
-      most = omega (arith, w.most);
-      front = w.front;
-      back = λ i k m. equal_or_not i mid (λ z. rw z (sym e ∙ t)) (λ n. later i (omega (arith, n)) m);
-    }
-      where
-        later : (i : ℕ) → mid < i → i < firsts → before (name (get_or order i 0)) x ≡ false
-        later i k m = go (before (name (get_or order i 0)) x) refl
-          where
-            go : (b : Bool) → before (name (get_or order i 0)) x ≡ b → b ≡ false
-            go true q = absurd (false≢true (sym t ∙ e ∙ before_trans _ (name (get_or order i 0)) _ (sorted mid i k m) q))
-            go false q = refl
+  pub stands_part : (x : List ℕ) (at : ℕ) → Stands name (take firsts order) (length (take firsts order)) x at → Stands name order firsts x at
+  stands_part x at s = record {
+    most = omega (arith, s.most, part_size);
+    front = λ i l. rw (← part_same i (omega (arith, l, s.most, part_size))) (s.front i l);
+    back = λ i l m. rw (← part_same i m) (s.back i l (omega (arith, m, part_size)));
+  }
 
-  pub between_end : (low high : ℕ) → Between low high → high ≤ low → Stands name order firsts x low
-  between_end low high w h = record { most = omega (arith, w.ordered, w.most); front = w.front; back = λ i k m. w.back i (omega arith) m }
+  pub first_at_part : (x : List ℕ) (at : ℕ) → first_at name (take firsts order) (length (take firsts order)) at x ≡ first_at name order firsts at x
+  unfolding first_at
+  first_at_part x at = rw part_size (below_or_not at firsts (λ l. rw (part_same at l) refl) (λ l. rw (le-ltb at firsts l)))
 
--- ---- making room: what stood from place k on is one place further
-module _ (order : List ℕ) (firsts at : ℕ) where
-  pub record Shifted (next : List ℕ) (k : ℕ) : Type 0 where
-    pub size : length next ≡ length order
-    pub low : at ≤ k
-    pub high : k ≤ firsts
-    pub few : firsts < length order
-    pub front : (i : ℕ) → i ≤ k → get_or next i 0 ≡ get_or order i 0
-    pub back : (i : ℕ) → k ≤ i → i < firsts → get_or next (suc i) 0 ≡ get_or order i 0
-    pub rest : (i : ℕ) → firsts < i → get_or next i 0 ≡ get_or order i 0
+module _ (name : ℕ → List ℕ) (order : List ℕ) (sorted : Sorted name order (length order)) (x : List ℕ) where
+  pub parted : IsPartitionedBy (λ p. before (name p) x) order
+  parted i j d l h e =
+      equal_or_not i j
+      (λ z. rw z e)
+      (λ n. let a = get_or_default order i d 0 (omega arith) in let b = get_or_default order j d 0 h in
+      rw a (before_trans (name (get_or order i 0)) (name (get_or order j 0)) x (sorted i j (omega (arith, l, n)) h) (rw b at e)))
 
-  pub shifted_start : at ≤ firsts → firsts < length order → Shifted order firsts
-  shifted_start l f = record { size = refl; low = l; high = omega arith; few = f; front = λ i h. refl; back = λ i h k. absurd (omega arith); rest = λ i h. refl }
+  pub stands : (at : ℕ) → at ≤ length order → IsPartitionPoint (λ p. before (name p) x ≡ true) (λ p. before (name p) x ≡ false) order at → Stands name order (length order) x at
+  stands at most point = record { most = most; front = λ i l. point.0 i 0 (omega arith) l; back = λ i l m. point.1 i 0 l m }
 
-  module _ (next : List ℕ) (k : ℕ) (w : Shifted next k) where
-    pub shifted_next : at < k → Shifted (set next k (get_or next (k - 1) 0)) (k - 1)
-    shifted_next h =
-        let v = get_or next (k - 1) 0 in
-        let is : v ≡ get_or order (k - 1) 0 = w.front (k - 1) (omega arith) in
-        record {
-          size = length-set next k v ∙ w.size;
-          low = omega arith;
-          high = omega (arith, w.high);
-          few = w.few;
-          front = λ i l. get_or-set_other next k i v 0 (λ y. omega (arith, y, l, h)) ∙ w.front i (omega (arith, l));
-          back = λ i l m. equal_or_not i (k - 1)
-              (λ z. let s : suc i ≡ k = omega (arith, z, h) in rw (s, get_or-set_same next k v 0 (rw w.size (omega (arith, w.high, w.few))), z) is)
-              (λ n. get_or-set_other next k (suc i) v 0 (λ y. omega (arith, y, l, n, h)) ∙ w.back i (omega (arith, l, n, h)) m);
-          rest = λ i l. get_or-set_other next k i v 0 (λ y. omega (arith, y, l, w.high)) ∙ w.rest i l;
-        }
-
-    pub shifted_end : (p : ℕ) → k ≤ at → Inserted order firsts at p (set next at p)
-    shifted_end p h = record {
-      size = length-set next at p ∙ w.size;
-      front = λ i l. get_or-set_other next at i p 0 (λ y. omega (arith, y, l)) ∙ w.front i (omega (arith, l, w.low));
-      here = get_or-set_same next at p 0 (rw w.size (omega (arith, w.low, w.high, w.few)));
-      back = λ i l m. get_or-set_other next at (suc i) p 0 (λ y. omega (arith, y, l)) ∙ w.back i (omega (arith, l, h)) m;
-      rest = λ i l. get_or-set_other next at i p 0 (λ y. omega (arith, y, l, w.low, w.high)) ∙ w.rest i l;
-    }
+-- ---- making room, by a copy of what stands from the place on
+pub inserted : (order next : List ℕ) (firsts at p : ℕ) → at ≤ firsts → firsts < length order → length next ≡ length order → CopiedTo order next at (at + 1) (firsts - at)
+    → SameBelow order next (at + 1) → SameFrom order next (at + 1 + (firsts - at)) → Inserted order firsts at p (set next at p)
+inserted order next firsts at p most few size copied below from = record {
+  size = length-set next at p ∙ size;
+  front = λ i l. get_or-set_other next at i p 0 (λ y. omega (arith, y, l)) ∙ below i 0 (omega arith);
+  here = get_or-set_same next at p 0 (rw size (omega arith));
+  back = λ i l m. let e : at + (suc i - (at + 1)) ≡ i = omega arith in
+      get_or-set_other next at (suc i) p 0 (λ y. omega (arith, y, l)) ∙ rw e at (copied (suc i) 0 (omega arith) (omega arith));
+  rest = λ i l. get_or-set_other next at i p 0 (λ y. omega (arith, y, l, most)) ∙ from i 0 (omega arith);
+}
 
 -- ---- an order that has one more
 module _ (order : List ℕ) (firsts at p : ℕ) (next : List ℕ) (n : Inserted order firsts at p next) where

@@ -55,4 +55,4 @@ pub record Ranked (name : ℕ → List ℕ) (n firsts : ℕ) (index : List ℕ) 
   pub sorted : Sorted name index firsts
   pub below : (i : ℕ) → i < firsts → get_or index i 0 < n
   pub first : (i : ℕ) → i < firsts → (q : ℕ) → q < get_or index i 0 → name q ≡ name (get_or index i 0) → ⊥
-  pub stands : (q : ℕ) → q < n → (i : ℕ) × (i < firsts) × (get_or index (512 + q) 0 ≡ suc (get_or index i 0)) × (name (get_or index i 0) ≡ name q)
+  pub stands : (q : ℕ) → q < n → any_from (λ i. eqb (get_or index (512 + q) 0) (suc (get_or index i 0)) && same (name (get_or index i 0)) (name q)) 0 firsts ≡ true

@@ -1,7 +1,7 @@
 -- Laws of packed fields, of parts, of equal byte strings and of the two bytes of a number. Assumes nothing.
-use mathlib.Core.Path.{◌≡◌, refl, sym, ap, ◌∙◌}
+use mathlib.Core.Path.{◌≡◌, refl, sym, ◌∙◌}
 use mathlib.Core.List.{List, [], ◌∷◌}
-use mathlib.Core.Bool.{Bool, true, false, cond, ◌&&◌, and-true, and-false, and_assoc, false≢true}
+use mathlib.Core.Bool.{Bool, true, false, cond, ◌&&◌, and-true, and_assoc, false≢true}
 use Prim.Native.Nat.{ℕ, zero, suc, min, ◌+◌, ◌-◌, ◌*◌, ◌/◌, ◌%◌, ◌^◌, ◌≤◌, ◌<◌}
 use native.Mathlib.Nat.{zero-add, add-zero, add-suc, add_assoc, mul-one, one-mul, mul_assoc, mul-suc, pow-zero, pow-suc, mod-one, mod-eq_of_lt, div-one, zero-div}
 use native.Mathlib.Numerals.{add-one}
@@ -11,6 +11,9 @@ use lib.ListN.{length, get_or, take, drop, length-drop, drop_of_length-le, get_o
 use lib.Seq.{drop-cons, take_all, take-nil}
 use lib.Pow.{mod-pow-add, pow-add, shr-shr, shl_exact, high, low}
 use borrow.Author.Tests.{eqb-true, eq-eqb, ne_eqb, ltb-true, ltb-false}
+use Rattle.std.proofs.Common.{Option, Some, None, MatchOption, unwrap_or}
+use Rattle.std.specs.Bool.{⊤}
+use Rattle.std.specs.Cmp.Lexicographic.{pointwise}
 use Rattle.packed.specs.Field.{bit, field_of}
 use Rattle.packed.specs.Bytes.{same, common_start, part, high_byte, low_byte}
 
@@ -161,32 +164,20 @@ eqb_sym zero (suc y) = eqb-zero-suc y ∙ sym (eqb-suc-zero y)
 eqb_sym (suc x) zero = eqb-suc-zero x ∙ sym (eqb-zero-suc x)
 eqb_sym (suc x) (suc y) = eqb-suc-suc x y ∙ eqb_sym x y ∙ sym (eqb-suc-suc y x)
 
+-- the test that `==` makes
+pub same_pointwise : (a b : List ℕ) → pointwise eqb a b ≡ same a b
+unfolding same
+same_pointwise [] [] = refl
+same_pointwise [] (y ∷ b) = refl
+same_pointwise (x ∷ a) [] = refl
+same_pointwise (x ∷ a) (y ∷ b) = rw (same_pointwise a b)
+
 pub same_sym : (a b : List ℕ) → same a b ≡ same b a
 unfolding same
 same_sym [] [] = refl
 same_sym [] (y ∷ b) = refl
 same_sym (x ∷ a) [] = refl
 same_sym (x ∷ a) (y ∷ b) = rw (eqb_sym x y, same_sym a b)
-
--- strings of other lengths differ
-pub same_lengths : (a b : List ℕ) → (length a ≡ length b → ⊥) → same a b ≡ false
-unfolding same
-same_lengths [] [] h = absurd (h refl)
-same_lengths [] (y ∷ b) h = refl
-same_lengths (x ∷ a) [] h = refl
-same_lengths (x ∷ a) (y ∷ b) h = rw (same_lengths a b (λ e. h (ap suc e)), and-false)
-
--- strings of one length are equal where they begin alike in all their bytes
-pub same_common : (a b : List ℕ) → length a ≡ length b → eqb (common_start a b) (length a) ≡ same a b
-unfolding same common_start
-same_common [] [] e = refl
-same_common [] (y ∷ b) e = absurd (omega arith)
-same_common (x ∷ a) [] e = absurd (omega arith)
-same_common (x ∷ a) (y ∷ b) e = go (same_common a b (omega arith)) (eqb x y)
-  where
-    go : eqb (common_start a b) (length a) ≡ same a b → (c : Bool) → eqb (cond c (suc (common_start a b)) 0) (suc (length a)) ≡ (c && same a b)
-    go rest true = eqb-suc-suc (common_start a b) (length a) ∙ rest
-    go rest false = eqb-zero-suc (length a)
 
 -- parts of two strings, compared by the first byte and the others, and by the first m bytes and the next n
 same_first : (a b : List ℕ) (i n : ℕ) → i < length a → i < length b
@@ -242,6 +233,44 @@ common_more a b i (suc n) h k e =
     let z : i + suc n ≡ i + 1 + n = omega arith in
     let p = both _ _ (sym (same_first a b i n (omega arith) (omega arith)) ∙ e) in
     rw (common_step a b i (omega arith) (omega arith) (eqb-true _ _ p.0), z, common_more a b (i + 1) n (omega arith) (omega arith) p.1) (omega arith)
+
+-- the same of bytes compared one by one, and eight by eight from the first on
+pub common_run : (a b : List ℕ) (i n : ℕ) → i + n ≤ length a → i + n ≤ length b → ((k : ℕ) → i ≤ k → k < i + n → get_or a k 0 ≡ get_or b k 0)
+    → common_start (drop i a) (drop i b) ≡ n + common_start (drop (i + n) a) (drop (i + n) b)
+common_run a b i zero h k e = rw (add-zero i) (omega arith)
+common_run a b i (suc n) h k e =
+    let z : i + suc n ≡ i + 1 + n = omega arith in
+    rw (common_step a b i (omega arith) (omega arith) (e i (omega arith) (omega arith)), z, common_run a b (i + 1) n (omega arith) (omega arith) (λ j p q. e j (omega arith) (omega arith))) (omega arith)
+
+pub common_eights : (a b : List ℕ) (n : ℕ) → 8 * n ≤ length a → 8 * n ≤ length b → ((k : ℕ) → k < n → same (part a (8 * k) 8) (part b (8 * k) 8) ≡ true)
+    → common_start a b ≡ 8 * n + common_start (drop (8 * n) a) (drop (8 * n) b)
+common_eights a b zero h k e = let z : 8 * zero ≡ 0 = omega arith in rw z (sym (zero-add (common_start a b)))
+common_eights a b (suc n) h k e =
+    let z : 8 * suc n ≡ 8 * n + 8 = omega arith in
+    rw (z, common_eights a b n (omega arith) (omega arith) (λ j p. e j (omega arith)), common_more a b (8 * n) 8 (omega arith) (omega arith) (e n (omega arith))) (omega arith)
+
+-- ---- what a search over a range says of them
+module _ (a b : List ℕ) (n : ℕ) (h : n ≤ length a) (k : n ≤ length b) where
+  pub alike_to : (r : Option ℕ) → MatchOption r ((j : ℕ) → 0 ≤ j → j < n / 8 → same (part a (8 * j) 8) (part b (8 * j) 8) ≡ true) (λ i. (0 ≤ i) × (i < n / 8) × ⊤ × ((j : ℕ) → 0 ≤ j → j < i → same (part a (8 * j) 8) (part b (8 * j) 8) ≡ true))
+      → (8 * unwrap_or r (n / 8) ≤ n) × (common_start a b ≡ 8 * unwrap_or r (n / 8) + common_start (drop (8 * unwrap_or r (n / 8)) a) (drop (8 * unwrap_or r (n / 8)) b))
+  alike_to None m = (omega arith, common_eights a b (n / 8) (omega arith) (omega arith) (λ j p. m j (omega arith) p))
+  alike_to (Some i) m = (omega (arith, m.1), common_eights a b i (omega (arith, m.1)) (omega (arith, m.1)) (λ j p. m.3 j (omega arith) p))
+
+  pub differ_at : (i : ℕ) → i ≤ n → n ≡ min (length a) (length b) → common_start a b ≡ i + common_start (drop i a) (drop i b)
+      → (r : Option ℕ) → MatchOption r ((j : ℕ) → i ≤ j → j < n → get_or a j 0 ≡ get_or b j 0) (λ x. (i ≤ x) × (x < n) × (get_or a x 0 ≡ get_or b x 0 → ⊥) × ((j : ℕ) → i ≤ j → j < x → get_or a j 0 ≡ get_or b j 0))
+      → unwrap_or r n ≡ common_start a b
+  differ_at i l e s None m =
+      let z : i + (n - i) ≡ n = omega arith in
+      let q = common_run a b i (n - i) (omega arith) (omega arith) (λ j p v. m j p (omega arith)) in
+      let f = common_end a b n (omega arith) in
+      let g = rw z at q in
+      omega (arith, s, f, g)
+  differ_at i l e s (Some x) m =
+      let z : i + (x - i) ≡ x = omega (arith, m.0) in
+      let q = common_run a b i (x - i) (omega (arith, m.1)) (omega (arith, m.1)) (λ j p v. m.3 j p (omega (arith, m.0))) in
+      let f = common_differ a b x (omega (arith, m.1)) (omega (arith, m.1)) m.2 in
+      let g = rw z at q in
+      omega (arith, s, m.0, f, g)
 
 -- ---- the bytes of a number
 pub two_bytes : (n : ℕ) → high_byte n * 256 + low_byte n ≡ n

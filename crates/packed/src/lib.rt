@@ -1,15 +1,9 @@
 // Packed fields and byte strings. The reader goes by shifts and masks; each stands in a small function whose contract is in / and %.
 #![tactic(auto)]
 
-ghost use Rattle.std.specs.Prelude.{◌≡◌, min, ◌+◌, ◌*◌, ◌/◌, ◌%◌, ◌^◌, ◌≤◌, ◌<◌, length, get_or, drop};
+ghost use Rattle.std.specs.Prelude.{◌≡◌, ◌+◌, ◌*◌, ◌/◌, ◌%◌, ◌^◌, ◌≤◌, ◌<◌, length, get_or, drop};
 ghost use Rattle.packed.specs.Field.{field_of, flag_of};
 ghost use Rattle.packed.specs.Bytes.{same, common_start, part};
-
-fn least(a: usize, b: usize) -> usize
-    ensures { result ≡ min a b }
-{
-    if a < b { a } else { b }
-}
 
 // Byte i.
 fn byte_in(s: &[u8], i: usize) -> u64
@@ -23,7 +17,7 @@ fn byte_in(s: &[u8], i: usize) -> u64
 pub fn byte_at(s: &[u8], i: usize) -> u64
     ensures { (result ≡ get_or s.now i 0) × (result < 256) }
 {
-    if i < s.len() { byte_in(s, i) } else { 0 }
+    s.get(i).map_or(0, |b| *b as u64)
 }
 
 // The place of bit k in its byte.
@@ -97,7 +91,7 @@ fn joined(hi: u64, lo: u64, k: usize, n: usize) -> u64
     (hi << n) | lo
 }
 
-// A field of any width, 32 bits of the bytes at a time.
+// A field of any width, up to 32 bits of the bytes at a time; the first step is as long as its first byte leaves, so that no range counts the steps.
 #[inline(never)]
 fn long_field(s: &[u8], off: u32, width: u32) -> u64
     requires { width ≤ 64 }
@@ -111,7 +105,7 @@ fn long_field(s: &[u8], off: u32, width: u32) -> u64
     while done < all {
         let at = from + done;
         let room = 32 - in_byte(at);
-        let n = least(room, all - done);
+        let n = room.min(all - done);
         let bits = low_bits(word_at(s, at >> 3) >> (room - n), n);
         r = joined(r, bits, done, n);
         done += n;
@@ -210,47 +204,25 @@ fn alike_eights(a: &[u8], b: &[u8], n: usize) -> usize
     requires { (n ≤ length a.now) × (n ≤ length b.now) }
     ensures { (result ≤ n) × (common_start a.now b.now ≡ result + common_start (drop result a.now) (drop result b.now)) }
 {
-    let mut i: usize = 0;
-    while i + 8 <= n {
-        if same_eight(a, b, i) {
-            i += 8;
-        } else {
-            return i;
-        }
-    }
-    i
-}
-
-// The length of the shorter string.
-fn shorter(a: &[u8], b: &[u8]) -> usize
-    ensures { result ≡ min (length a.now) (length b.now) }
-{
-    if a.len() < b.len() { a.len() } else { b.len() }
+    let eights = n / 8;
+    let alike = (0..eights).find(|k| !same_eight(a, b, 8 * *k));
+    8 * alike.unwrap_or(eights)
 }
 
 // How many bytes two strings begin alike in.
 pub fn common_start(a: &[u8], b: &[u8]) -> usize
     ensures { result ≡ common_start a.now b.now }
 {
-    let n = shorter(a, b);
-    let mut i = alike_eights(a, b, n);
-    while i < n {
-        if a[i] != b[i] {
-            return i;
-        }
-        i += 1;
-    }
-    i
+    let n = a.len().min(b.len());
+    let first = (alike_eights(a, b, n)..n).find(|i| a[*i] != b[*i]);
+    first.unwrap_or(n)
 }
 
 // Whether two byte strings are equal.
 pub fn same_bytes(a: &[u8], b: &[u8]) -> bool
     ensures { result ≡ same a.now b.now }
 {
-    if a.len() != b.len() {
-        return false;
-    }
-    common_start(a, b) == a.len()
+    a == b
 }
 
 // The `len` bytes from byte `start` on, or as many as there are.

@@ -1,7 +1,6 @@
 pub mod Laws
 pub mod Last
 pub mod Turn
-pub mod Frame
 pub mod Reading
 pub mod Runs
 pub mod Writing

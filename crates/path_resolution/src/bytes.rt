@@ -10,12 +10,10 @@ pub fn write_resolution(codes: &[u32], n: u16, out: &mut [u8])
     requires { 2 * n ≤ length out.old }
     ensures { out.new ≡ code_bytes codes.now n ++ drop (2 * n) out.old }
 {
-    let mut g: u16 = 0;
-    while g < n {
+    for g in 0..n {
         let code = code_at(codes, g);
         let at = 2 * (g as usize);
         out[at] = byte_of(code, 1);
         out[at + 1] = byte_of(code, 0);
-        g += 1;
     }
 }

@@ -13,7 +13,7 @@ ghost use Rattle.csdl.specs.Walk.{walk_answer, walk_buffer};
 ghost use Rattle.demands.specs.Word.{word, upper, opened_in};
 ghost use Rattle.demands.specs.Demands.{ModelPromise, InstancePromise, MembersPromise, WalkPromise};
 
-use demands::{instance_word, members_word, model_word, walk_word};
+use demands::word_of;
 use enumeration_members::check_members;
 use instance_check::check_instance;
 use model_check::check_model;
@@ -26,7 +26,7 @@ pub extern "C" fn tour_check_model(image: &[u8], resolution: &mut [u8]) -> u64
     ensures resolution_after { resolution.new ≡ model_buffer image.now resolution.old }
     ensures model_promise { ModelPromise image.now resolution.old result resolution.new }
 {
-    model_word(check_model(image, resolution))
+    word_of(check_model(image, resolution))
 }
 
 // Checks an instance against its model.
@@ -35,7 +35,7 @@ pub extern "C" fn tour_check_instance(model: &[u8], instance: &[u8]) -> u64
     ensures value { result ≡ word (instance_answer model.now instance.now) }
     ensures instance_promise { InstancePromise model.now instance.now result }
 {
-    instance_word(check_instance(model, instance))
+    word_of(check_instance(model, instance))
 }
 
 // Checks the members of a model's enumerations.
@@ -44,7 +44,7 @@ pub extern "C" fn tour_check_members(model: &[u8], members: &[u8]) -> u64
     ensures value { result ≡ word (members_answer model.now members.now) }
     ensures members_promise { MembersPromise model.now members.now result }
 {
-    members_word(check_members(model, members))
+    word_of(check_members(model, members))
 }
 
 // Walks a path of the record at a place from a node; the results are written into the buffer as items.
@@ -62,5 +62,5 @@ pub extern "C" fn tour_walk(
     ensures result_bound { upper result ≡ 0 → opened_in result ≤ (instance_in instance.now).slots }
     ensures walk_promise { WalkPromise model.now instance.now place path node results.old result results.new }
 {
-    walk_word(walk(model, instance, place, path, node, results))
+    word_of(walk(model, instance, place, path, node, results))
 }

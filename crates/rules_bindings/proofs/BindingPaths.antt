@@ -24,7 +24,6 @@ use Rattle.path_resolution.specs.Resolution.{prefix, step_no, code_at}
 use Rattle.path_resolution.specs.Coded.{Coded}
 use Rattle.path_resolution.proofs.Reading.{cast_steps, target_steps, binding_steps, end_steps}
 use Rattle.path_resolution.proofs.Runs.{run_codes}
-use Rattle.path_steps.specs.Steps.{step_test}
 use Rattle.path_steps.proofs.Named.{name_step, resolves-there}
 use Rattle.rules_bindings.specs.Runs.{path_run, run_end}
 use Rattle.rules_bindings.specs.Bindings.{binding_codes, class_of, class_at, again_bound, binding_again, target_codes, ends_apart, binding_coded}
@@ -100,7 +99,7 @@ module _ (m : Model) (codes : List ℕ) (table : Coded m codes) (few : m.propert
 
   -- 19f, 19g
   target_form : (b : ℕ) → b < holders m Target → target_codes m (path_run m codes Target b) (path_of m Target b).count ≡ (binding19f m b || binding19g m b)
-  unfolding target_codes step_test
+  unfolding target_codes
   target_form b h =
       let run = path_run m codes Target b in
       let coded = run_codes m codes table Target b h (short Target b) in

@@ -17,7 +17,6 @@ use Rattle.path_resolution.specs.Resolution.{code_at, is_code, number_of}
 use Rattle.path_resolution.specs.Coded.{Coded}
 use Rattle.path_resolution.proofs.Reading.{is_steps, last_is, last_below, last_number}
 use Rattle.path_resolution.proofs.Runs.{run_codes}
-use Rattle.path_steps.specs.Steps.{step_test}
 use Rattle.rules_bindings.specs.Runs.{path_run}
 use Rattle.rules_bindings.specs.Partners.{partner_last, partner_codes, other_partner, contained_partner, other_contains, shared_containment, partner_ends, partner_coded}
 
@@ -48,7 +47,7 @@ module _ (m : Model) (codes : List ℕ) (table : Coded m codes) (few : m.propert
 
     -- 17a, 17b
     partner-path : partner_codes m (path_run m codes Partner p) (path_of m Partner p).count ≡ (property17a m p || property17b m p)
-    unfolding partner_codes step_test
+    unfolding partner_codes
     partner-path = ap₂ ◌||◌ (ap not (last_is m _ _ _ _ partner_run few (λ q. m.navigation q))) (is_steps m _ _ _ (path_run m codes Partner p) partner_run few (λ q. m.navigation q))
 
   -- 17f, of another property q

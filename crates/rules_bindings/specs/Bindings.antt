@@ -2,12 +2,11 @@
 use Rattle.std.specs.Prelude.{ℕ, ◌+◌, ◌-◌, ◌*◌, List, Bool, cond, not, ◌&&◌, ◌||◌, eqb, ltb, get_or}
 use Rattle.csdl.specs.Search.{any_from}
 use Rattle.csdl.specs.Model.{Model}
-use Rattle.csdl.specs.Find.{ancestor_or_self}
+use Rattle.csdl.specs.Find.{ancestor_or_self, contain_step}
 use Rattle.csdl.specs.Path.{path_of}
 use Rattle.csdl.specs.declared.PathKind.TheVariants.{Binding, Target}
-use Rattle.csdl.specs.Paths.{non_containment, binding19e}
+use Rattle.csdl.specs.Paths.{non_containment, target_step, binding19e}
 use Rattle.path_resolution.specs.Resolution.{cast_code, last_name, form_of}
-use Rattle.path_steps.specs.declared.StepTest.TheVariants.{NoTargetStep, NoTargetEnd}
 use Rattle.path_steps.specs.Steps.{step_or_end}
 use Rattle.rules_bindings.specs.Runs.{path_run, run_end}
 
@@ -40,7 +39,7 @@ binding_fingerprint m index codes b =
 
 -- 19f, 19g, of the n codes of a target path.
 unfoldable pub target_codes : Model → List ℕ → ℕ → Bool
-target_codes m codes n = any_from (λ k. cast_code (get_or codes k 0)) 0 n || step_or_end m NoTargetStep NoTargetEnd codes n
+target_codes m codes n = any_from (λ k. cast_code (get_or codes k 0)) 0 n || step_or_end (λ p. not (target_step m p)) (λ p. not (contain_step m p)) codes n
 
 -- 19h, of the types at the ends of the two paths.
 unfoldable pub ends_apart : Model → ℕ → ℕ → Bool

@@ -6,8 +6,7 @@ use Rattle.csdl.specs.Find.{ancestor_or_self, top}
 use Rattle.csdl.specs.Path.{path_of}
 use Rattle.csdl.specs.declared.PathKind.TheVariants.{Partner}
 use Rattle.path_resolution.specs.Resolution.{is_code, number_of, last_code}
-use Rattle.path_steps.specs.declared.StepTest.TheVariants.{Navigates}
-use Rattle.path_steps.specs.Steps.{step_test, any_code}
+use Rattle.path_steps.specs.Steps.{any_code}
 use Rattle.rules_bindings.specs.Runs.{path_run}
 
 -- The code of the last step of the partner path of p; that of nothing where it has none.
@@ -16,7 +15,7 @@ partner_last m codes p = last_code (path_run m codes Partner p) (path_of m Partn
 
 -- 17a, 17b, of the n codes of a path.
 unfoldable pub partner_codes : Model → List ℕ → ℕ → Bool
-partner_codes m codes n = not (is_code (λ p. step_test m Navigates p) (last_code codes n)) || any_code m Navigates codes (n - 1)
+partner_codes m codes n = not (is_code (λ p. m.navigation p) (last_code codes n)) || any_code (λ p. m.navigation p) codes (n - 1)
 
 -- 17d
 unfoldable pub other_partner : Model → List ℕ → ℕ → ℕ → Bool

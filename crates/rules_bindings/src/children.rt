@@ -1,107 +1,62 @@
 // Rule 18: keys for collections, and the children of the entity container.
-ghost use Rattle.std.specs.Prelude.{◌≡◌, []};
-ghost use Rattle.csdl.specs.Search.{first_from};
-ghost use Rattle.csdl.specs.Tables.{property_count, child_count};
-ghost use Rattle.csdl.specs.Model.{model_of};
+ghost use Rattle.std.specs.Prelude.{◌≡◌};
+ghost use Rattle.csdl.specs.Search.{first_from, found};
 ghost use Rattle.csdl.specs.Find.{has_key};
 ghost use Rattle.csdl.specs.Paths.{property18a, child18};
-ghost use Rattle.type_hierarchy.specs.AncestorSets.{ancestors_of};
+ghost use Rattle.model_image.specs.Read.{model_read};
 ghost use Rattle.type_hierarchy.specs.KeyOwners.{KeyOwners};
-ghost use Rattle.model_image.specs.Limits.{FewChildren, FewKeys, FewProperties, FewTypes};
 
-use model_image::children::{child_count, child_nullable, child_singleton, child_type};
-use model_image::properties::{
-    property_collection, property_contains, property_count, property_navigation, property_type_ref,
-};
-use type_hierarchy::ancestors::with_ancestors;
+use csdl::TypeKind;
+use type_hierarchy::hierarchy::Hierarchy;
 use type_hierarchy::key_owners::key_owners;
 use type_hierarchy::kinds::of_kind;
 use type_hierarchy::type_sets::meet;
 
-// Whether t or one of its ancestors has a key. `ancestors` has those of all types, `owners` the owners of all keys.
-fn has_key(types: &[u8], keys: &[u8], ancestors: &[u64], owners: u64, t: u16) -> bool
-    requires { FewTypes types.now × (ancestors.now ≡ ancestors_of types.now) × KeyOwners keys.now owners }
-    ensures { result ≡ has_key (model_of [] types.now [] keys.now [] [] [] [] []) t }
+// Whether t or one of its ancestors has a key; `owners` has the owners of all keys.
+fn has_key(hierarchy: &Hierarchy, owners: u64, t: u16) -> bool
+    requires { KeyOwners hierarchy.now.model.keys.now owners }
+    ensures { result ≡ has_key (model_read hierarchy.now.model) t }
 {
-    meet(owners, with_ancestors(types, ancestors, t))
+    meet(owners, hierarchy.with_ancestors(t))
 }
 
 // Whether p is a contained collection of a type that has no key (18a).
-fn property_18(
-    types: &[u8],
-    properties: &[u8],
-    keys: &[u8],
-    ancestors: &[u64],
-    owners: u64,
-    p: u16,
-) -> bool
-    requires { FewTypes types.now × (ancestors.now ≡ ancestors_of types.now) × KeyOwners keys.now owners }
-    ensures { result ≡ property18a (model_of [] types.now properties.now keys.now [] [] [] [] []) p }
+#[tactic(auto, unfolding(csdl::specs::Paths::property18a))]
+fn property_18(hierarchy: &Hierarchy, owners: u64, p: u16) -> bool
+    requires { KeyOwners hierarchy.now.model.keys.now owners }
+    ensures { result ≡ property18a (model_read hierarchy.now.model) p }
 {
-    if property_navigation(properties, p)
-        & property_contains(properties, p)
-        & property_collection(properties, p)
-    {
-        return !has_key(
-            types,
-            keys,
-            ancestors,
-            owners,
-            property_type_ref(properties, p),
-        );
-    }
-    false
+    let model = &hierarchy.model;
+    (model.property_navigation(p) & model.property_contains(p) & model.property_collection(p))
+        && !has_key(hierarchy, owners, model.property_type_ref(p))
 }
 
 // Whether child h breaks rule 18 (18b to 18d).
-fn child_18(
-    types: &[u8],
-    keys: &[u8],
-    children: &[u8],
-    ancestors: &[u64],
-    owners: u64,
-    h: u16,
-) -> bool
-    requires { FewTypes types.now × (ancestors.now ≡ ancestors_of types.now) × KeyOwners keys.now owners }
-    ensures { result ≡ child18 (model_of [] types.now [] keys.now [] children.now [] [] []) h }
+#[tactic(auto, unfolding(csdl::specs::Paths::child18))]
+fn child_18(hierarchy: &Hierarchy, owners: u64, h: u16) -> bool
+    requires { KeyOwners hierarchy.now.model.keys.now owners }
+    ensures { result ≡ child18 (model_read hierarchy.now.model) h }
 {
-    let t = child_type(children, h);
-    let set = !child_singleton(children, h);
-    set & !has_key(types, keys, ancestors, owners, t)
-        | !of_kind(types, 0, t)
-        | set & child_nullable(children, h)
+    let model = &hierarchy.model;
+    let t = model.child_type(h);
+    let set = !model.child_singleton(h);
+    set & !has_key(hierarchy, owners, t)
+        | !of_kind(model, TypeKind::Entity, t)
+        | set & model.child_nullable(h)
 }
 
-// The first property that breaks rule 18: 0 for none, else its number plus 1.
-pub fn first_property_18(types: &[u8], properties: &[u8], keys: &[u8], ancestors: &[u64]) -> u16
-    requires { FewTypes types.now × FewProperties properties.now × FewKeys keys.now × (ancestors.now ≡ ancestors_of types.now) }
-    ensures { result ≡ first_from (λ p. property18a (model_of [] types.now properties.now keys.now [] [] [] [] []) p) 0 (property_count properties.now) }
+// The first property that breaks rule 18.
+pub fn first_property_18(hierarchy: &Hierarchy) -> Option<u16>
+    ensures { result ≡ found (first_from (λ p. property18a (model_read hierarchy.now.model) p) 0 ((model_read hierarchy.now.model).properties)) }
 {
-    let n = property_count(properties);
-    let owners = key_owners(keys);
-    let mut p: u16 = 0;
-    while p < n {
-        if property_18(types, properties, keys, ancestors, owners, p) {
-            return p + 1;
-        }
-        p += 1;
-    }
-    0
+    let owners = key_owners(&hierarchy.model);
+    (0..hierarchy.model.property_count()).find(|p| property_18(hierarchy, owners, *p))
 }
 
 // The first child that breaks rule 18.
-pub fn first_child_18(types: &[u8], keys: &[u8], children: &[u8], ancestors: &[u64]) -> u16
-    requires { FewTypes types.now × FewKeys keys.now × FewChildren children.now × (ancestors.now ≡ ancestors_of types.now) }
-    ensures { result ≡ first_from (λ h. child18 (model_of [] types.now [] keys.now [] children.now [] [] []) h) 0 (child_count children.now) }
+pub fn first_child_18(hierarchy: &Hierarchy) -> Option<u16>
+    ensures { result ≡ found (first_from (λ h. child18 (model_read hierarchy.now.model) h) 0 ((model_read hierarchy.now.model).children)) }
 {
-    let n = child_count(children);
-    let owners = key_owners(keys);
-    let mut h: u16 = 0;
-    while h < n {
-        if child_18(types, keys, children, ancestors, owners, h) {
-            return h + 1;
-        }
-        h += 1;
-    }
-    0
+    let owners = key_owners(&hierarchy.model);
+    (0..hierarchy.model.child_count()).find(|h| child_18(hierarchy, owners, *h))
 }

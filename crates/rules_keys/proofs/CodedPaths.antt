@@ -25,7 +25,6 @@ use Rattle.path_resolution.specs.Resolution.{step_no, code_at, cast_code}
 use Rattle.path_resolution.specs.Coded.{Coded, run_of}
 use Rattle.path_resolution.proofs.Runs.{run_codes}
 use Rattle.path_resolution.proofs.Reading.{cast_steps, other_steps, last_other, last_is, last_cast, last_number}
-use Rattle.path_steps.specs.Steps.{step_test}
 use Rattle.path_steps.proofs.Named.{name_step, resolves-there}
 use Rattle.rules_keys.specs.Keys.{coded_name, again_named, named_again, key_codes, key_coded}
 use Rattle.rules_keys.specs.Constraints.{constraint_ends, constraint_codes, constraint_fails, constraint_end, constraint_coded}
@@ -34,7 +33,7 @@ use Rattle.rules_keys.proofs.Orders.{end_broken, rest-same, two_paths}
 module _ (m : Model) (codes : List ℕ) (coded : Coded m codes) (few : m.properties ≤ 32768) (short : (w : PathKind) (r : ℕ) → (path_of m w r).count < 16) where
   -- 15c to 15e
   path_coded : (k : ℕ) → k < m.keys → key_codes m codes k ≡ (key15c m k || (key15d m k || key15e m k))
-  unfolding key_codes holders path_of key15c step_test
+  unfolding key_codes holders path_of key15c
   path_coded k there =
       let run = run_of codes (m.key_path k).first (m.key_path k).count in
       let at = run_codes m codes coded Key k there (short Key k) in
@@ -44,7 +43,7 @@ module _ (m : Model) (codes : List ℕ) (coded : Coded m codes) (few : m.propert
   module _ (w : PathKind) (r : ℕ) (there : r < holders m w) where
     -- 16b to 16d of one path, and its last property
     fails_coded : constraint_fails m codes (path_of m w r) ≡ (has_cast (path_steps m w r) || (broken_inner m (path_steps m w r) || broken_end m (path_steps m w r)))
-    unfolding constraint_fails constraint_codes broken_inner step_test
+    unfolding constraint_fails constraint_codes broken_inner
     fails_coded =
         let run = run_of codes (path_of m w r).first (path_of m w r).count in
         let at = run_codes m codes coded w r there (short w r) in

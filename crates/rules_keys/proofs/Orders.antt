@@ -1,31 +1,26 @@
 -- The clauses of rules 15 and 16 as the code finds them. Assumes nothing.
 use Prim.Native.Nat.{ℕ}
 use mathlib.Core.Path.{◌≡◌, refl}
-use mathlib.Core.Bool.{Bool, true, false, not, ◌||◌, or-true}
-use lib.Dec.{ltb, leb}
-use borrow.Author.Tests.{ltb-true, ltb-false, le-leb, lt-leb}
+use mathlib.Core.Bool.{Bool, true, false, cond, not, beq, ◌||◌, or-true}
+use Rattle.std.proofs.Common.{Some, None}
 use Rattle.csdl.specs.Properties.{alike}
 use Rattle.csdl.specs.Path.{Step, no_property, is_property}
 use Rattle.csdl.specs.Path.Step.{property, type, nothing}
 
-pub not_twice : (b : Bool) → b ≡ not (not b)
-not_twice true = refl
-not_twice false = refl
+pub beq_alike : (a b : Bool) → beq a b ≡ alike a b
+beq_alike true true = refl
+beq_alike true false = refl
+beq_alike false true = refl
+beq_alike false false = refl
 
-pub at_most : (a b : ℕ) → leb a b ≡ not (ltb b a)
-at_most a b = go (ltb b a) refl
-  where
-    go : (x : Bool) → ltb b a ≡ x → leb a b ≡ not x
-    go true e = lt-leb a b (ltb-true b a e)
-    go false e = le-leb a b (ltb-false b a e)
+-- What a path's end says of the test that refuses it.
+pub kept_end : (b : Bool) (x d : ℕ) → cond b None (Some x) ≡ Some d → (b ≡ false) × (x ≡ d)
+kept_end true x d e = cc
+kept_end false x d e = (refl, (cc))
 
-pub unlike_true : (b : Bool) → not b ≡ not (alike b true)
-unlike_true true = refl
-unlike_true false = refl
-
-pub unlike_false : (b : Bool) → b ≡ not (alike b false)
-unlike_false true = refl
-unlike_false false = refl
+pub refused_end : (b : Bool) (x : ℕ) → cond b None (Some x) ≡ None → b ≡ true
+refused_end true x e = refl
+refused_end false x e = cc
 
 -- The end of a path of rule 16: a navigation property or none, as 16d has it.
 pub end_broken : (h i : Bool) (test : ℕ → Bool) (s : Step) → (h || (i || is_property test s) || no_property s) ≡ (h || (i || not (is_property (λ p. not (test p)) s)))

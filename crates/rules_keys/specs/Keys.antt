@@ -1,13 +1,12 @@
 -- Rule 15, of the codes of all segments.
-use Rattle.std.specs.Prelude.{ℕ, List, [], Bool, cond, ◌&&◌, ◌||◌, eqb, get_or}
+use Rattle.std.specs.Prelude.{ℕ, List, [], Bool, cond, not, ◌&&◌, ◌||◌, eqb, get_or}
 use Rattle.packed.specs.Bytes.{same}
 use Rattle.csdl.specs.Search.{any_from}
 use Rattle.csdl.specs.Model.{Model, named, key_alias_text, property_text}
-use Rattle.csdl.specs.Paths.{key15a, key15b, key15f, key15h}
+use Rattle.csdl.specs.Paths.{key_step, key_end, key15a, key15b, key15f, key15h}
 use Rattle.rules_names.specs.Digests.{fingerprint_of}
 use Rattle.path_resolution.specs.Resolution.{cast_code}
 use Rattle.path_resolution.specs.Coded.{run_of}
-use Rattle.path_steps.specs.declared.StepTest.TheVariants.{NoKeyStep, NoKeyEnd}
 use Rattle.path_steps.specs.Steps.{step_or_end}
 
 -- The name of key k: its alias, else the name of the property that its path begins with; no bytes where it has no segment or begins with a cast.
@@ -28,7 +27,7 @@ unfoldable pub key_codes : Model → List ℕ → ℕ → Bool
 key_codes m codes k =
     let n = (m.key_path k).count in
     let run = run_of codes (m.key_path k).first n in
-    any_from (λ j. cast_code (get_or run j 0)) 0 n || step_or_end m NoKeyStep NoKeyEnd run n
+    any_from (λ j. cast_code (get_or run j 0)) 0 n || step_or_end (λ p. not (key_step m p)) (λ p. not (key_end m p)) run n
 
 -- Key k by its owner and name.
 unfoldable pub key_fingerprint : Model → List ℕ → ℕ → ℕ

@@ -1,3 +1,3 @@
 pub mod Fingerprints
-pub mod Dots
+pub mod Parts
 mod Identifiers

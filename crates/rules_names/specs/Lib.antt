@@ -1,4 +1,3 @@
 pub mod Digests
-pub mod Dots
 pub mod Identifiers
 pub mod Repeats

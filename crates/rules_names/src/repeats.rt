@@ -1,125 +1,92 @@
-// Rule 7: types of one schema and children do not repeat a name.
-ghost use Rattle.std.specs.Prelude.{◌≡◌, [], ◌+◌, ◌≤◌};
-ghost use Rattle.csdl.specs.Search.{first_from};
-ghost use Rattle.csdl.specs.Tables.{type_count, child_count};
-ghost use Rattle.csdl.specs.Model.{model_of};
+// Rule 7: types of one schema and children do not repeat a name. Each has its own functions: the contract of a generic one, which has to say what its
+// closures answer, would be longer than the two bodies.
+ghost use Rattle.std.specs.Prelude.{◌≡◌, ◌<◌};
 ghost use Rattle.csdl.specs.Form as rules;
+ghost use Rattle.csdl.specs.Search.{first_from, found};
+ghost use Rattle.model_image.specs.Read.{model_read};
 ghost use Rattle.rules_names.specs.Digests.{type_fingerprint, child_fingerprint, Fingerprinted};
 ghost use Rattle.rules_names.specs.Repeats.{same_child};
-ghost use Rattle.model_image.specs.Limits.{FewChildren, FewTypes};
 
-use crate::digests::fingerprint_of;
-use model_image::children::{child_count, child_name};
-use model_image::fields::text_of;
-use model_image::types::{type_count, type_name, type_schema};
+use crate::digests::{fingerprint_of, fingerprints};
+use model_image::model::Model;
 use packed::same_bytes;
 
 // The fingerprint of type t, and of child h.
-fn type_fingerprint(types: &[u8], names: &[u8], t: u16) -> u64
-    ensures { result ≡ type_fingerprint (model_of [] types.now [] [] [] [] [] [] names.now) t }
+#[tactic(auto, unfolding(crate::specs::Digests::type_fingerprint))]
+fn type_fingerprint(model: &Model, t: u16) -> u64
+    ensures { result ≡ type_fingerprint (model_read model.now) t }
 {
-    fingerprint_of(type_schema(types, t), text_of(names, type_name(types, t)))
+    fingerprint_of(model.type_schema(t), model.type_text(t))
 }
 
-fn child_fingerprint(children: &[u8], names: &[u8], h: u16) -> u64
-    ensures { result ≡ child_fingerprint (model_of [] [] [] [] [] children.now [] [] names.now) h }
+#[tactic(auto, unfolding(crate::specs::Digests::child_fingerprint))]
+fn child_fingerprint(model: &Model, h: u16) -> u64
+    ensures { result ≡ child_fingerprint (model_read model.now) h }
 {
-    fingerprint_of(0, text_of(names, child_name(children, h)))
+    fingerprint_of(0, model.child_text(h))
+}
+
+// Those of all types, and of all children.
+fn type_fingerprints(model: &Model) -> [u64; 64]
+    ensures { Fingerprinted (λ t. type_fingerprint (model_read model.now) t) (model_read model.now).types result }
+{
+    fingerprints(model.type_count(), |t| type_fingerprint(model, t))
+}
+
+fn child_fingerprints(model: &Model) -> [u64; 64]
+    ensures { Fingerprinted (λ h. child_fingerprint (model_read model.now) h) (model_read model.now).children result }
+{
+    fingerprints(model.child_count(), |h| child_fingerprint(model, h))
 }
 
 // Whether type u has the schema and the name of type t; asked of their fingerprints first.
-fn same_type(types: &[u8], names: &[u8], fingerprints: &[u64], t: u16, u: u16) -> bool
-    requires { (u ≤ t) × Fingerprinted (λ v. type_fingerprint (model_of [] types.now [] [] [] [] [] [] names.now) v) (t + 1) fingerprints.now }
-    ensures { result ≡ rules.same_type (model_of [] types.now [] [] [] [] [] [] names.now) t u }
+#[tactic(auto, unfolding(csdl::specs::Form::same_type))]
+fn same_type(model: &Model, fingerprints: &[u64], t: u16, u: u16) -> bool
+    requires { (u < (model_read model.now).types) × (t < (model_read model.now).types) × Fingerprinted (λ v. type_fingerprint (model_read model.now) v) (model_read model.now).types fingerprints.now }
+    ensures { result ≡ rules.same_type (model_read model.now) t u }
 {
-    if fingerprints[u as usize] != fingerprints[t as usize] {
-        return false;
-    }
-    if type_schema(types, u) != type_schema(types, t) {
-        return false;
-    }
-    same_bytes(
-        text_of(names, type_name(types, u)),
-        text_of(names, type_name(types, t)),
-    )
+    fingerprints[u as usize] == fingerprints[t as usize]
+        && ((model.type_schema(u) == model.type_schema(t))
+            & same_bytes(model.type_text(u), model.type_text(t)))
 }
 
 // 7a: the type has the name of an earlier type of its schema.
-fn type_7(types: &[u8], names: &[u8], fingerprints: &[u64], t: u16) -> bool
-    requires { Fingerprinted (λ v. type_fingerprint (model_of [] types.now [] [] [] [] [] [] names.now) v) (t + 1) fingerprints.now }
-    ensures { result ≡ rules.type7a (model_of [] types.now [] [] [] [] [] [] names.now) t }
+fn type_7(model: &Model, fingerprints: &[u64], t: u16) -> bool
+    requires { (t < (model_read model.now).types) × Fingerprinted (λ v. type_fingerprint (model_read model.now) v) (model_read model.now).types fingerprints.now }
+    ensures { result ≡ rules.type7a (model_read model.now) t }
 {
-    let mut u: u16 = 0;
-    while u < t {
-        if same_type(types, names, fingerprints, t, u) {
-            return true;
-        }
-        u += 1;
-    }
-    false
+    (0..t).any(|u| same_type(model, fingerprints, t, u))
 }
 
 // Whether child j has the name of child h; asked of their fingerprints first.
-fn same_child(children: &[u8], names: &[u8], fingerprints: &[u64], h: u16, j: u16) -> bool
-    requires { (j ≤ h) × Fingerprinted (λ v. child_fingerprint (model_of [] [] [] [] [] children.now [] [] names.now) v) (h + 1) fingerprints.now }
-    ensures { result ≡ same_child (model_of [] [] [] [] [] children.now [] [] names.now) h j }
+fn same_child(model: &Model, fingerprints: &[u64], h: u16, j: u16) -> bool
+    requires { (j < (model_read model.now).children) × (h < (model_read model.now).children) × Fingerprinted (λ v. child_fingerprint (model_read model.now) v) (model_read model.now).children fingerprints.now }
+    ensures { result ≡ same_child (model_read model.now) h j }
 {
-    if fingerprints[j as usize] != fingerprints[h as usize] {
-        return false;
-    }
-    same_bytes(
-        text_of(names, child_name(children, j)),
-        text_of(names, child_name(children, h)),
-    )
+    fingerprints[j as usize] == fingerprints[h as usize]
+        && same_bytes(model.child_text(j), model.child_text(h))
 }
 
 // 7b: the child has the name of an earlier child.
-fn child_7(children: &[u8], names: &[u8], fingerprints: &[u64], h: u16) -> bool
-    requires { Fingerprinted (λ v. child_fingerprint (model_of [] [] [] [] [] children.now [] [] names.now) v) (h + 1) fingerprints.now }
-    ensures { result ≡ rules.child7b (model_of [] [] [] [] [] children.now [] [] names.now) h }
+fn child_7(model: &Model, fingerprints: &[u64], h: u16) -> bool
+    requires { (h < (model_read model.now).children) × Fingerprinted (λ v. child_fingerprint (model_read model.now) v) (model_read model.now).children fingerprints.now }
+    ensures { result ≡ rules.child7b (model_read model.now) h }
 {
-    let mut j: u16 = 0;
-    while j < h {
-        if same_child(children, names, fingerprints, h, j) {
-            return true;
-        }
-        j += 1;
-    }
-    false
+    (0..h).any(|j| same_child(model, fingerprints, h, j))
 }
 
-// The first type that breaks rule 7: 0 for none, else its number plus 1.
-pub fn first_type_7(types: &[u8], names: &[u8]) -> u16
-    requires { FewTypes types.now }
-    ensures { result ≡ first_from (λ t. rules.type7a (model_of [] types.now [] [] [] [] [] [] names.now) t) 0 (type_count types.now) }
+// The first type that breaks rule 7.
+pub fn first_type_7(model: &Model) -> Option<u16>
+    ensures { result ≡ found (first_from (λ t. rules.type7a (model_read model.now) t) 0 ((model_read model.now).types)) }
 {
-    let n = type_count(types);
-    let mut fingerprints = [1u64; 64];
-    let mut t: u16 = 0;
-    while t < n {
-        fingerprints[t as usize] = type_fingerprint(types, names, t);
-        if type_7(types, names, &fingerprints, t) {
-            return t + 1;
-        }
-        t += 1;
-    }
-    0
+    let fingerprints = type_fingerprints(model);
+    (0..model.type_count()).find(|t| type_7(model, &fingerprints, *t))
 }
 
 // The first child that breaks rule 7.
-pub fn first_child_7(children: &[u8], names: &[u8]) -> u16
-    requires { FewChildren children.now }
-    ensures { result ≡ first_from (λ h. rules.child7b (model_of [] [] [] [] [] children.now [] [] names.now) h) 0 (child_count children.now) }
+pub fn first_child_7(model: &Model) -> Option<u16>
+    ensures { result ≡ found (first_from (λ h. rules.child7b (model_read model.now) h) 0 ((model_read model.now).children)) }
 {
-    let n = child_count(children);
-    let mut fingerprints = [1u64; 64];
-    let mut h: u16 = 0;
-    while h < n {
-        fingerprints[h as usize] = child_fingerprint(children, names, h);
-        if child_7(children, names, &fingerprints, h) {
-            return h + 1;
-        }
-        h += 1;
-    }
-    0
+    let fingerprints = child_fingerprints(model);
+    (0..model.child_count()).find(|h| child_7(model, &fingerprints, *h))
 }

@@ -1,16 +1,15 @@
 // Rule 6: namespaces and aliases of schemas.
-ghost use Rattle.std.specs.Prelude.{◌≡◌, [], ◌||◌};
-ghost use Rattle.csdl.specs.Search.{first_from};
-ghost use Rattle.csdl.specs.Tables.{schema_count};
-ghost use Rattle.csdl.specs.Model.{model_of};
+ghost use Rattle.std.specs.Prelude.{◌≡◌, ◌||◌};
 ghost use Rattle.csdl.specs.Form as rules;
-ghost use Rattle.model_image.specs.Limits.{FewSchemas};
+ghost use Rattle.csdl.specs.Search.{first_from, found};
+ghost use Rattle.model_image.specs.Read.{model_read};
 
 use model_image::fields::text_of;
-use model_image::schemas::{schema_alias, schema_count, schema_namespace};
+use model_image::model::Model;
 use packed::same_bytes;
 
 // One of the four reserved names.
+#[tactic(auto, unfolding(csdl::specs::Form::reserved))]
 fn is_reserved(s: &[u8]) -> bool
     ensures { result ≡ rules.reserved s.now }
 {
@@ -21,75 +20,56 @@ fn is_reserved(s: &[u8]) -> bool
 }
 
 // Whether the bytes are the namespace or the alias of schema j.
-fn names_schema(schemas: &[u8], names: &[u8], s: &[u8], j: u16) -> bool
-    ensures { result ≡ rules.names_schema (model_of schemas.now [] [] [] [] [] [] [] names.now) s.now j }
+#[tactic(auto, unfolding(csdl::specs::Form::names_schema, model_image::specs::Read::model_read, csdl::specs::Model::model_of))]
+fn names_schema(model: &Model, s: &[u8], j: u16) -> bool
+    ensures { result ≡ rules.names_schema (model_read model.now) s.now j }
 {
-    let alias = schema_alias(schemas, j);
-    let size = alias.size;
-    same_bytes(s, text_of(names, schema_namespace(schemas, j)))
-        | ((size != 0) & same_bytes(s, text_of(names, alias)))
+    let alias = model.schema_alias(j);
+    same_bytes(s, model.namespace_text(j))
+        | ((alias.size != 0) & same_bytes(s, text_of(model.names, alias)))
 }
 
 // 6a, 6b: a name is reserved, or the alias is the namespace.
-fn schema_6ab(schemas: &[u8], names: &[u8], i: u16) -> bool
-    ensures { result ≡ (rules.schema6a (model_of schemas.now [] [] [] [] [] [] [] names.now) i || rules.schema6b (model_of schemas.now [] [] [] [] [] [] [] names.now) i) }
+#[tactic(auto, unfolding(model_image::specs::Read::model_read, csdl::specs::Model::model_of))]
+fn schema_6ab(model: &Model, i: u16) -> bool
+    ensures { result ≡ (rules.schema6a (model_read model.now) i || rules.schema6b (model_read model.now) i) }
 {
-    let named = schema_alias(schemas, i);
-    let size = named.size;
-    let alias = text_of(names, named);
-    let namespace = text_of(names, schema_namespace(schemas, i));
+    let namespace = model.namespace_text(i);
+    let named = model.schema_alias(i);
+    let alias = text_of(model.names, named);
     is_reserved(namespace)
-        | ((size != 0) & is_reserved(alias))
-        | ((size != 0) & same_bytes(alias, namespace))
+        | ((named.size != 0) & is_reserved(alias))
+        | ((named.size != 0) & same_bytes(alias, namespace))
 }
 
 // Whether schema i has one of the names of schema j.
-fn shares_name(schemas: &[u8], names: &[u8], i: u16, j: u16) -> bool
-    ensures { result ≡ rules.shares_name (model_of schemas.now [] [] [] [] [] [] [] names.now) i j }
+#[tactic(auto, unfolding(csdl::specs::Form::shares_name, model_image::specs::Read::model_read, csdl::specs::Model::model_of))]
+fn shares_name(model: &Model, i: u16, j: u16) -> bool
+    ensures { result ≡ rules.shares_name (model_read model.now) i j }
 {
-    let alias = schema_alias(schemas, i);
-    let size = alias.size;
-    names_schema(
-        schemas,
-        names,
-        text_of(names, schema_namespace(schemas, i)),
-        j,
-    ) | ((size != 0) & names_schema(schemas, names, text_of(names, alias), j))
+    let alias = model.schema_alias(i);
+    names_schema(model, model.namespace_text(i), j)
+        | ((alias.size != 0) & names_schema(model, text_of(model.names, alias), j))
 }
 
 // 6c: a name is one of an earlier schema's.
-fn schema_6c(schemas: &[u8], names: &[u8], i: u16) -> bool
-    ensures { result ≡ rules.schema6c (model_of schemas.now [] [] [] [] [] [] [] names.now) i }
+fn schema_6c(model: &Model, i: u16) -> bool
+    ensures { result ≡ rules.schema6c (model_read model.now) i }
 {
-    let mut j: u16 = 0;
-    while j < i {
-        if shares_name(schemas, names, i, j) {
-            return true;
-        }
-        j += 1;
-    }
-    false
+    (0..i).any(|j| shares_name(model, i, j))
 }
 
 // Rule 6 of schema i.
-fn schema_6(schemas: &[u8], names: &[u8], i: u16) -> bool
-    ensures { result ≡ rules.schema6 (model_of schemas.now [] [] [] [] [] [] [] names.now) i }
+#[tactic(auto, unfolding(csdl::specs::Form::schema6))]
+fn schema_6(model: &Model, i: u16) -> bool
+    ensures { result ≡ rules.schema6 (model_read model.now) i }
 {
-    schema_6ab(schemas, names, i) | schema_6c(schemas, names, i)
+    schema_6ab(model, i) | schema_6c(model, i)
 }
 
-// The first schema that breaks rule 6: 0 for none, else its number plus 1.
-pub fn first_6(schemas: &[u8], names: &[u8]) -> u16
-    requires { FewSchemas schemas.now }
-    ensures { result ≡ first_from (λ i. rules.schema6 (model_of schemas.now [] [] [] [] [] [] [] names.now) i) 0 (schema_count schemas.now) }
+// The first schema that breaks rule 6.
+pub fn first_6(model: &Model) -> Option<u16>
+    ensures { result ≡ found (first_from (λ i. rules.schema6 (model_read model.now) i) 0 ((model_read model.now).schemas)) }
 {
-    let n = schema_count(schemas);
-    let mut i: u16 = 0;
-    while i < n {
-        if schema_6(schemas, names, i) {
-            return i + 1;
-        }
-        i += 1;
-    }
-    0
+    (0..model.schema_count()).find(|i| schema_6(model, *i))
 }

@@ -1,3 +1,2 @@
-pub mod Named
-pub mod Frame
-pub mod Any
+pub mod Along
+pub mod Tests

@@ -1,186 +1,110 @@
 // Rule 11: a name declared again on the owner, or below an ancestor's property without right.
 #![tactic(auto)]
 
-ghost use Rattle.std.specs.Prelude.{◌≡◌, [], ◌<◌, eqb};
-ghost use Rattle.type_hierarchy.specs.AncestorSets.{ancestors_of};
-ghost use Rattle.lookup.specs.Index.{Indexed};
-ghost use Rattle.csdl.specs.Tables.{property_count, property_owner, property_type_ref};
-ghost use Rattle.csdl.specs.Search.{any_from, first_from};
-ghost use Rattle.csdl.specs.Model.{model_of};
+ghost use Rattle.std.specs.Prelude.{◌≡◌, ℕ, Bool, ◌&&◌, ◌<◌};
+ghost use Rattle.csdl.specs.Search.{first_from, found};
 ghost use Rattle.csdl.specs.Find as find;
 ghost use Rattle.csdl.specs.Properties as rules;
+ghost use Rattle.csdl.specs.Properties.{same_name};
+ghost use Rattle.model_image.specs.Read.{model_read};
 ghost use Rattle.type_hierarchy.specs.Sets.{Members};
-ghost use Rattle.rules_redeclaration.specs.Clashes.{clash, clashing};
-ghost use Rattle.model_image.specs.Limits.{FewProperties, FewTypes};
+ghost use Rattle.rules_redeclaration.specs.Clashes.{clashing};
 
-use lookup::index::{first_alike, next_alike};
-use model_image::numbers::alike;
-use model_image::properties::{
-    property_collection, property_contains, property_count, property_navigation, property_nullable,
-    property_owner, property_type_ref,
-};
-use type_hierarchy::ancestors::ancestors_at;
+use lookup::model::Lookup;
+use model_image::model::Model;
 use type_hierarchy::bases::ancestor;
 use type_hierarchy::type_sets::in_set;
 
-// Whether two properties have the same owner.
-fn same_owner(properties: &[u8], p: u16, q: u16) -> bool
-    ensures { result ≡ eqb (property_owner properties.now q) (property_owner properties.now p) }
+// The first property that has the name of p and passes the test. A loop, since `successors` does not say that it ends.
+fn first_alike_that<F: Fn(u16) -> bool>(lookup: &Lookup, p: u16, test: F) -> Option<u16>
+    requires low { p < (model_read lookup.now.hierarchy.model).properties }
+    requires callable { F.IsAlwaysCallable test }
+    ensures { (passes : ℕ → Bool) → ((q : ℕ) (b : Bool) → F.post test q b → b ≡ passes q) → result ≡ found (first_from (λ q. passes q && same_name (model_read lookup.now.hierarchy.model) p q) 0 ((model_read lookup.now.hierarchy.model).properties)) }
 {
-    property_owner(properties, q) == property_owner(properties, p)
+    let mut at = lookup.first_alike(p);
+    while let Some(q) = at {
+        if test(q) {
+            return Some(q);
+        }
+        at = lookup.next_alike(q);
+    }
+    None
 }
 
 // 11a: whether an earlier property of the owner has the name.
-fn declared_before(properties: &[u8], names: &[u8], index: &[u16], p: u16) -> bool
-    requires { FewProperties properties.now × (p < property_count properties.now) × Indexed properties.now names.now index.now }
-    ensures { result ≡ rules.property11a (model_of [] [] properties.now [] [] [] [] [] names.now) p }
+fn declared_before(lookup: &Lookup, p: u16) -> bool
+    requires { p < (model_read lookup.now.hierarchy.model).properties }
+    ensures { result ≡ rules.property11a (model_read lookup.now.hierarchy.model) p }
 {
-    let mut at = first_alike(index, p);
-    while 0 < at {
-        let q = at - 1;
-        if p <= q {
-            return false;
-        }
-        if same_owner(properties, p, q) {
-            return true;
-        }
-        at = next_alike(index, q);
-    }
-    false
+    let model = &lookup.hierarchy.model;
+    let owner = model.property_owner(p);
+    let first = first_alike_that(lookup, p, |q| (p <= q) | (model.property_owner(q) == owner));
+    first.is_some_and(|q| q < p)
 }
 
-// Whether a is an ancestor of t, of which the set has those below 64.
-fn is_above(types: &[u8], ancestors: u64, a: u16, t: u16) -> bool
-    requires { FewTypes types.now × Members 64 ancestors (λ u. find.ancestor (model_of [] types.now [] [] [] [] [] [] []) u t) }
-    ensures { result ≡ find.ancestor (model_of [] types.now [] [] [] [] [] [] []) a t }
+// Whether a is an ancestor of t; `ancestors` has those of t.
+fn is_above(model: &Model, ancestors: u64, a: u16, t: u16) -> bool
+    requires { Members 64 ancestors (λ u. find.ancestor (model_read model.now) u t) }
+    ensures { result ≡ find.ancestor (model_read model.now) a t }
 {
     if a < 64 {
         return in_set(ancestors, a);
     }
-    ancestor(types, a, t)
+    ancestor(model, a, t)
 }
 
 // Whether p may redeclare q; `ancestors` has the ancestors of p's type.
-fn redeclares(types: &[u8], properties: &[u8], ancestors: u64, p: u16, q: u16) -> bool
-    requires { FewTypes types.now × Members 64 ancestors (λ u. find.ancestor (model_of [] types.now [] [] [] [] [] [] []) u (property_type_ref properties.now p)) }
-    ensures { result ≡ rules.redeclares (model_of [] types.now properties.now [] [] [] [] [] []) p q }
+fn redeclares(model: &Model, ancestors: u64, p: u16, q: u16) -> bool
+    requires { Members 64 ancestors (λ u. find.ancestor (model_read model.now) u ((model_read model.now).type_ref p)) }
+    ensures { result ≡ rules.redeclares (model_read model.now) p q }
 {
-    let kind = alike(
-        property_navigation(properties, p),
-        property_navigation(properties, q),
-    );
-    let narrower = is_above(
-        types,
-        ancestors,
-        property_type_ref(properties, q),
-        property_type_ref(properties, p),
-    );
-    let collection = alike(
-        property_collection(properties, p),
-        property_collection(properties, q),
-    );
-    let nullable = alike(
-        property_nullable(properties, p),
-        property_nullable(properties, q),
-    );
-    let contains = alike(
-        property_contains(properties, p),
-        property_contains(properties, q),
-    );
-    kind & narrower & collection & nullable & contains
+    (model.property_navigation(p) == model.property_navigation(q))
+        & is_above(
+            model,
+            ancestors,
+            model.property_type_ref(q),
+            model.property_type_ref(p),
+        )
+        & (model.property_collection(p) == model.property_collection(q))
+        & (model.property_nullable(p) == model.property_nullable(q))
+        & (model.property_contains(p) == model.property_contains(q))
 }
 
 // Whether q, which has p's name, is of a type of the set, and p may not redeclare it.
-fn clashes(types: &[u8], properties: &[u8], above: u64, ancestors: u64, p: u16, q: u16) -> bool
-    requires { FewTypes types.now × Members 64 ancestors (λ u. find.ancestor (model_of [] types.now [] [] [] [] [] [] []) u (property_type_ref properties.now p)) }
-    ensures { result ≡ clashing (model_of [] types.now properties.now [] [] [] [] [] []) above p q }
+#[tactic(auto, unfolding(crate::specs::Clashes::clashing))]
+fn clashes(model: &Model, above: u64, ancestors: u64, p: u16, q: u16) -> bool
+    requires { Members 64 ancestors (λ u. find.ancestor (model_read model.now) u ((model_read model.now).type_ref p)) }
+    ensures { result ≡ clashing (model_read model.now) above p q }
 {
-    if !in_set(above, property_owner(properties, q)) {
-        return false;
-    }
-    !redeclares(types, properties, ancestors, p, q)
-}
-
-// Whether some property clashes with p.
-fn any_clash(
-    types: &[u8],
-    properties: &[u8],
-    names: &[u8],
-    index: &[u16],
-    above: u64,
-    ancestors: u64,
-    p: u16,
-) -> bool
-    requires { FewTypes types.now × FewProperties properties.now × (p < property_count properties.now) × Members 64 ancestors (λ u. find.ancestor (model_of [] types.now [] [] [] [] [] [] []) u (property_type_ref properties.now p)) × Indexed properties.now names.now index.now }
-    ensures { result ≡ any_from (λ q. clash (model_of [] types.now properties.now [] [] [] [] [] names.now) above p q) 0 (property_count properties.now) }
-{
-    let mut at = first_alike(index, p);
-    while 0 < at {
-        let q = at - 1;
-        if clashes(types, properties, above, ancestors, p, q) {
-            return true;
-        }
-        at = next_alike(index, q);
-    }
-    false
+    in_set(above, model.property_owner(q)) && !redeclares(model, ancestors, p, q)
 }
 
 // 11b: whether a property of an ancestor has the name, and this one may not redeclare it.
-fn wrongly_redeclared(
-    types: &[u8],
-    properties: &[u8],
-    names: &[u8],
-    index: &[u16],
-    ancestors: &[u64],
-    p: u16,
-) -> bool
-    requires { FewTypes types.now × FewProperties properties.now × (p < property_count properties.now) × Indexed properties.now names.now index.now × (ancestors.now ≡ ancestors_of types.now) }
-    ensures { result ≡ rules.property11b (model_of [] types.now properties.now [] [] [] [] [] names.now) p }
+fn wrongly_redeclared(lookup: &Lookup, p: u16) -> bool
+    requires { p < (model_read lookup.now.hierarchy.model).properties }
+    ensures { result ≡ rules.property11b (model_read lookup.now.hierarchy.model) p }
 {
-    let above = ancestors_at(types, ancestors, property_owner(properties, p));
+    let hierarchy = &lookup.hierarchy;
+    let above = hierarchy.ancestors_at(hierarchy.model.property_owner(p));
     if above == 0 {
         return false;
     }
-    let wider = ancestors_at(types, ancestors, property_type_ref(properties, p));
-    any_clash(types, properties, names, index, above, wider, p)
+    let wider = hierarchy.ancestors_at(hierarchy.model.property_type_ref(p));
+    first_alike_that(lookup, p, |q| clashes(&hierarchy.model, above, wider, p, q)).is_some()
 }
 
-// Whether the property breaks rule 11; `ancestors` has those of all types.
-fn property_11(
-    types: &[u8],
-    properties: &[u8],
-    names: &[u8],
-    index: &[u16],
-    ancestors: &[u64],
-    p: u16,
-) -> bool
-    requires { FewTypes types.now × FewProperties properties.now × (p < property_count properties.now) × Indexed properties.now names.now index.now × (ancestors.now ≡ ancestors_of types.now) }
-    ensures { result ≡ rules.property11 (model_of [] types.now properties.now [] [] [] [] [] names.now) p }
+// Whether the property breaks rule 11.
+#[tactic(auto, unfolding(csdl::specs::Properties::property11))]
+fn property_11(lookup: &Lookup, p: u16) -> bool
+    requires { p < (model_read lookup.now.hierarchy.model).properties }
+    ensures { result ≡ rules.property11 (model_read lookup.now.hierarchy.model) p }
 {
-    if declared_before(properties, names, index, p) {
-        return true;
-    }
-    wrongly_redeclared(types, properties, names, index, ancestors, p)
+    declared_before(lookup, p) || wrongly_redeclared(lookup, p)
 }
 
-// The first property that breaks rule 11: 0 for none, else its number plus 1.
-pub fn first_11(
-    types: &[u8],
-    properties: &[u8],
-    names: &[u8],
-    index: &[u16],
-    ancestors: &[u64],
-) -> u16
-    requires { FewTypes types.now × FewProperties properties.now × Indexed properties.now names.now index.now × (ancestors.now ≡ ancestors_of types.now) }
-    ensures { result ≡ first_from (λ p. rules.property11 (model_of [] types.now properties.now [] [] [] [] [] names.now) p) 0 (property_count properties.now) }
+// The first property that breaks rule 11.
+pub fn first_11(lookup: &Lookup) -> Option<u16>
+    ensures { result ≡ found (first_from (λ p. rules.property11 (model_read lookup.now.hierarchy.model) p) 0 ((model_read lookup.now.hierarchy.model).properties)) }
 {
-    let n = property_count(properties);
-    let mut p: u16 = 0;
-    while p < n {
-        if property_11(types, properties, names, index, ancestors, p) {
-            return p + 1;
-        }
-        p += 1;
-    }
-    0
+    (0..lookup.hierarchy.model.property_count()).find(|p| property_11(lookup, *p))
 }

@@ -1,25 +1,23 @@
 -- Required steps, and the types on cycles of them, from the code's rows.
 use Prim.Native.Nat.{ℕ, ◌+◌, ◌≤◌, ◌<◌}
 use mathlib.Core.Path.{◌≡◌, refl, sym, ap, ◌∙◌}
-use mathlib.Core.List.{List, []}
+use mathlib.Core.List.{List}
 use mathlib.Core.Bool.{Bool, true, false, ◌&&◌, ◌||◌, and-true, and-false, or-false}
 use native.Mathlib.Omega.{arith}
 use lib.Dec.{eqb}
 use lib.ListN.{length, get_or, set, replicate, get_or-replicate}
 use lib.Seq.{get_or-set_same, get_or-set_other}
 use borrow.Author.Tests.{eqb-true, eq-eqb, ne_eqb}
-use Rattle.csdl.specs.Search.{any_from}
-use Rattle.csdl.specs.Climb.{reaches}
-use Rattle.csdl.specs.Tables.{type_count}
-use Rattle.csdl.specs.Model.{Model, model_of}
+use Rattle.csdl.specs.Search.{any_from, first_from, found}
+use Rattle.csdl.specs.Model.{Model}
 use Rattle.csdl.specs.Find.{ancestor_or_self}
 use Rattle.csdl.specs.Properties.{required, required_step, type12}
-use Rattle.type_hierarchy.specs.Sets.{member, Members, set_of, step_of}
-use Rattle.rules_required_cycle.specs.Cycles.{cyclic}
+use Rattle.type_hierarchy.specs.Sets.{member, Members, step_of}
+use Rattle.rules_required_cycle.specs.Closing.{Closed}
 use Rattle.rules_required_cycle.specs.Steps.{own_step, Owned}
-use Rattle.csdl.proofs.Logic.{any_found, any_of, and_cases, and_both, bool_iff, equal_or_not}
+use Rattle.csdl.proofs.Logic.{any_found, any_of, first-same, and_cases, and_both, bool_iff, equal_or_not}
 use Rattle.csdl.proofs.Reaching.{reaches_same}
-use Rattle.type_hierarchy.proofs.SetLaws.{member-none, member-set, set_same}
+use Rattle.type_hierarchy.proofs.SetLaws.{member-none}
 use Rattle.rules_required_cycle.proofs.Gather.{gather_start, gather_next}
 
 -- No property yet, and one more: its step goes to the row of its owner.
@@ -73,20 +71,12 @@ module _ (m : Model) (rows : List ℕ) (set t u : ℕ) (low : u < 64) (owners : 
   unfolding required_step
   all_steps = bool_iff (any_from by_type 0 64) (any_from by_property 0 m.properties) up down
 
--- Row t has the steps of t.
-pub cyclic_rows : (m : Model) (rows : List ℕ) → m.types ≤ 64 → ((t : ℕ) → t < m.types → Members 64 (get_or rows t 0) (λ u. required_step m t u))
-    → set_of (λ a. reaches (step_of rows) m.types a a) m.types ≡ cyclic m
-unfolding cyclic type12
-cyclic_rows m rows h all =
-    set_same _ _ m.types
-    (λ t l. reaches_same (step_of rows) (λ a b. required_step m a b) m.types (λ x y i j. all x i y (omega arith)) t t l)
-
-cyclic-at : (m : Model) (t : ℕ) → t < m.types → member (cyclic m) t ≡ type12 m t
-unfolding cyclic
-cyclic-at m t h = member-set (λ u. type12 m u) m.types t h
-
--- The set of the types on cycles, asked of one.
-pub asked : (types properties : List ℕ) {cycles t : ℕ} {r : Bool} → r ≡ member cycles t → cycles ≡ cyclic (model_of [] types properties [] [] [] [] [] []) → t < type_count types
-    → r ≡ type12 (model_of [] types properties [] [] [] [] [] []) t
-unfolding model_of
-asked types properties {cycles} {t} e f h = e ∙ rw f (cyclic-at (model_of [] types properties [] [] [] [] [] []) t h)
+-- Row t has the steps of t, and gets what they reach: the first in its own row is the first that reaches itself.
+pub first_cyclic : (m : Model) (rows closed : List ℕ) (n : ℕ) → n ≡ m.types → n ≤ 64 → ((t : ℕ) → t < m.types → Members 64 (get_or rows t 0) (λ u. required_step m t u)) → Closed n rows closed
+    → found (first_from (λ t. step_of closed t t) 0 m.types) ≡ found (first_from (λ t. type12 m t) 0 m.types)
+unfolding type12
+first_cyclic m rows closed n e few is all =
+    ap found
+    (first-same (λ t. step_of closed t t) (λ t. type12 m t) 0 m.types
+    (λ t i h. let l : t < m.types = omega (arith, h) in
+    (rw e at all) t t l l ∙ reaches_same (step_of rows) (λ a b. required_step m a b) m.types (λ x y i j. is x i y (omega (arith, e, few, j))) t t l))

@@ -1,16 +1,14 @@
-// Reaching by steps, over a list of sets: row a has the numbers that a steps to. Every row goes through one number after the other: once it has
+// Reaching by steps, over 64 sets: row a has the numbers that a steps to. Every row goes through one number after the other: once it has
 // gone through those below c, row a has what is reached from a through numbers below c.
-ghost use Rattle.std.specs.Prelude.{◌≡◌, ◌||◌, ◌&&◌, ℕ, ◌≤◌, ◌<◌, length};
-ghost use Rattle.csdl.specs.Climb.{reaches};
-ghost use Rattle.type_hierarchy.specs.Sets.{member, set_of, step_of};
+ghost use Rattle.std.specs.Prelude.{◌≡◌, ◌||◌, ◌&&◌, ℕ, ◌≤◌, ◌<◌};
+ghost use Rattle.type_hierarchy.specs.Sets.{member, step_of};
 ghost use Rattle.rules_required_cycle.specs.Closing.{Through, Closed};
 
-use model_image::numbers::one_if;
 use type_hierarchy::type_sets::in_set;
 
 // The row, and row c where c is in the set.
-pub fn with_row(rows: &[u64], set: u64, row: u64, c: u16) -> u64
-    requires { (length rows.now ≡ 64) × (c < 64) }
+pub fn with_row(rows: &[u64; 64], set: u64, row: u64, c: u16) -> u64
+    requires { c < 64 }
     ensures { (b : ℕ) → b < 64 → member result b ≡ (member row b || (member set c && step_of rows.now c b)) }
 {
     if in_set(set, c) {
@@ -20,8 +18,8 @@ pub fn with_row(rows: &[u64], set: u64, row: u64, c: u16) -> u64
 }
 
 // The rows below n go through c too.
-fn go_through(rows: &mut [u64], n: u16, c: u16)
-    requires { (length rows.old ≡ 64) × (n ≤ 64) × (c < n) }
+fn go_through(rows: &mut [u64; 64], n: u16, c: u16)
+    requires { (n ≤ 64) × (c < n) }
     ensures { Through n c rows.old rows.new }
 {
     for a in 0..n {
@@ -31,34 +29,11 @@ fn go_through(rows: &mut [u64], n: u16, c: u16)
 }
 
 // The rows below n get what their numbers reach in one or more steps.
-fn close_rows(rows: &mut [u64], n: u16)
-    requires { (length rows.old ≡ 64) × (n ≤ 64) }
+pub(crate) fn close_rows(rows: &mut [u64; 64], n: u16)
+    requires { n ≤ 64 }
     ensures { Closed n rows.old rows.new }
 {
     for c in 0..n {
         go_through(rows, n, c);
     }
-}
-
-// The numbers below n that are in their own row.
-fn in_own_row(rows: &[u64], n: u16) -> u64
-    requires { (length rows.now ≡ 64) × (n ≤ 64) }
-    ensures { result ≡ set_of (λ a. step_of rows.now a a) n }
-{
-    let mut set: u64 = 0;
-    for a in 0..n {
-        let found = in_set(rows[a as usize], a);
-        set = set | ((one_if(found) as u64) << a);
-    }
-    set
-}
-
-// The numbers below n that reach themselves.
-pub fn on_cycles(rows: [u64; 64], n: u16) -> u64
-    requires { (length rows ≡ 64) × (n ≤ 64) }
-    ensures { result ≡ set_of (λ a. reaches (step_of rows) n a a) n }
-{
-    let mut closed = rows;
-    close_rows(&mut closed, n);
-    in_own_row(&closed, n)
 }

@@ -1,20 +1,20 @@
 -- Counting, in an array, how many runs each number is in.
 use Prim.Native.Nat.{ℕ, min, ◌+◌, ◌*◌, ◌≤◌, ◌<◌}
 use mathlib.Core.Path.{◌≡◌, refl, ap, ◌∙◌}
-use mathlib.Core.List.{List, []}
-use mathlib.Core.Bool.{Bool, true, false, ◌&&◌}
+use mathlib.Core.List.{List}
+use mathlib.Core.Bool.{Bool, true, false, not, ◌&&◌}
 use native.Mathlib.Numerals.{add-one}
 use native.Mathlib.Omega.{arith}
 use lib.ListN.{length, get_or, set, replicate, get_or-replicate}
 use lib.Seq.{get_or-set_same, get_or-set_other}
 use lib.Dec.{eqb, ltb, leb}
-use borrow.Author.Tests.{ne_eqb, leb-true, ltb-true, ltb-false, eqb-true, eqb-false, lt-ltb, le-ltb, le-leb}
+use borrow.Author.Tests.{leb-true, ltb-true, ltb-false, eqb-true, eqb-false, lt-ltb, le-ltb, le-leb}
 use Rattle.csdl.specs.declared.Run.{Run}
 use Rattle.csdl.proofs.Settle.{one_if_le, count-le}
-use Rattle.csdl.specs.Model.{Model, model_of, in_run}
-use Rattle.csdl.specs.Path.{kind_paths_with, paths_with, holders, path_of}
+use Rattle.csdl.specs.Model.{Model, in_run}
+use Rattle.csdl.specs.Path.{kinds, kind_paths_with, paths_with}
+use Rattle.csdl.specs.declared.PathKind.TheVariants.{Partner}
 use Rattle.csdl.specs.Paths.{segment13}
-use Rattle.path_kinds.specs.Kinds.{kind_at}
 use Rattle.csdl.specs.Search.{one_if, sum_from, count_from, sum_of}
 use Rattle.rules_segments.specs.Cover.{inside, cover_of}
 use Rattle.csdl.proofs.Logic.{sum_suc, count_next}
@@ -57,7 +57,7 @@ counted-more out₀ out from g low high c k = go (eqb k g) refl
         rw (get_or-set_other out g k (get_or out g 0 + 1) 0 ne, ltb-other k g ne) (c k)
 
 -- At the end of the run, or of the array.
-pub counted_end : (out₀ out : List ℕ) (first count g size : ℕ) → min (first + count) size ≤ g → g ≤ first + count → first ≤ g → Counted out₀ out first g →
+pub counted_end : (out₀ out : List ℕ) (first count g size : ℕ) → min size (first + count) ≤ g → g ≤ first + count → first ≤ g → Counted out₀ out first g →
     (k : ℕ) → k < size → get_or out k 0 ≡ get_or out₀ k 0 + one_if (inside first count k)
 unfolding inside
 counted_end out₀ out first count g size low high from c k h = c k ∙ go (ltb k g) refl
@@ -115,16 +115,11 @@ summed_more f out out' kind s n g h =
     (omega (arith, (s g h).0, (n g h).0), omega (arith, (s g h).1, (n g h).0, (n g h).1))
 
 -- All six kinds.
-pub all_kinds : (m : Model) (g : ℕ) → sum_from (λ k. kind_paths_with m (kind_at k) g) 0 6 ≡ cover_of m g
-unfolding sum_from kind_at cover_of paths_with sum_of
+pub all_kinds : (m : Model) (g : ℕ) → sum_from (λ k. kind_paths_with m (get_or kinds k Partner) g) 0 6 ≡ cover_of m g
+unfolding sum_from cover_of paths_with sum_of
 all_kinds m g = omega arith
 
--- Rule 13 from the number of paths that a segment is in; the table of segments itself does not matter.
-module _ (pr ke co bi sg : List ℕ) (g c : ℕ) (e : c ≡ cover_of (model_of [] [] pr ke co [] bi [] []) g) where
-  pub covered_once : c ≡ 1 → segment13 (model_of [] [] pr ke co [] bi sg []) g ≡ false
-  unfolding segment13 cover_of paths_with sum_of kind_paths_with holders path_of model_of
-  covered_once h = rw (← e, h)
-
-  pub not_covered_once : (c ≡ 1 → ⊥) → segment13 (model_of [] [] pr ke co [] bi sg []) g ≡ true
-  unfolding segment13 cover_of paths_with sum_of kind_paths_with holders path_of model_of
-  not_covered_once h = rw (← e, ne_eqb c 1 h)
+-- Rule 13 from the number of paths that a segment is in.
+pub not_once : (m : Model) (g c : ℕ) → c ≡ cover_of m g → not (eqb c 1) ≡ segment13 m g
+unfolding segment13 cover_of
+not_once m g c e = rw e

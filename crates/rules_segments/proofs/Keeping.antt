@@ -1,16 +1,16 @@
 -- The codes of the segments kept path by path, kind by kind. Assumes nothing.
 use Prim.Native.Nat.{ℕ, ◌+◌, ◌-◌, ◌≤◌, ◌<◌}
 use mathlib.Core.Path.{◌≡◌, refl, sym, ap, subst, ◌∙◌}
-use mathlib.Core.List.{List}
+use mathlib.Core.List.{List, ◌++◌}
 use mathlib.Core.Bool.{Bool, true, false, false≢true}
 use mathlib.Core.Logic.{◌⊎◌, inl, inr, ⊎_elim}
 use native.Mathlib.Omega.{arith}
-use lib.ListN.{length, get_or, set, length-set}
-use lib.Seq.{get_or-set_same, get_or-set_other}
+use lib.ListN.{length, get_or, take, drop}
+use Rattle.std.proofs.lemmas.List.{length-append, length-take-le, length-drop, get_or_append_left, get_or-append_right, get_or-take, get_or-drop}
 use lib.Dec.{ltb}
 use borrow.Author.Tests.{ltb-true, ltb-false}
 use Rattle.csdl.specs.Model.{Model, in_run}
-use Rattle.csdl.specs.Path.{holders, path_of, start_of, step_in}
+use Rattle.csdl.specs.Path.{kinds, holders, path_of, start_of, step_in}
 use Rattle.csdl.specs.declared.PathKind.{PathKind}
 use Rattle.csdl.specs.declared.PathKind.TheVariants.{Partner, Key, Dependent, Principal, Binding, Target}
 use Rattle.csdl.specs.Verdict.{step_code}
@@ -18,27 +18,39 @@ use Rattle.csdl.proofs.Logic.{true-false, not_so, run_in, in_run_lem}
 use Rattle.csdl.proofs.Segments.{only-path}
 use Rattle.path_resolution.specs.Resolution.{ResolvedTo, code_at, step_no}
 use Rattle.path_resolution.specs.Coded.{Coded}
-use Rattle.path_kinds.specs.Kinds.{kind_at}
 use Rattle.rules_segments.specs.Kept.{RunKept, Resolvable, PathKept, PathStep, KindStep, Progress, PastKept}
 use Rattle.rules_segments.proofs.Least.{empty_run}
 
--- ---- a run of codes, one after another
-pub run_start : (run codes : List ℕ) (first : ℕ) → RunKept run first 0 codes codes
-run_start run codes first = record { same_length = refl; codes_at = λ k h. absurd (omega arith); others = λ g h. refl }
-
-pub run_more : (run before codes : List ℕ) (first k : ℕ) → RunKept run first k before codes → first + k < length codes
-    → RunKept run first (k + 1) before (set codes (first + k) (get_or run k 0))
-run_more run before codes first k w fits = record {
-  same_length = length-set codes (first + k) (get_or run k 0) ∙ w.same_length;
-  codes_at = λ j h. go j h (ltb j k) refl;
-  others = λ g h. get_or-set_other codes (first + k) g (get_or run k 0) 0 (λ e. ⊎_elim (λ l. omega arith) (λ l. omega arith) h) ∙ w.others g (⊎_elim (λ l. inl l) (λ l. inr (omega arith)) h);
-}
+-- ---- a run of codes, copied to its place
+pub run_copied : (run before : List ℕ) (first count : ℕ) → count ≤ length run → first + count ≤ length before
+    → RunKept run first count before (take first before ++ (take count run ++ drop (first + count) before))
+run_copied run before first count enough room = record { same_length = all; codes_at = inside; others = λ g h. ⊎_elim (earlier g) (later g) h }
   where
-    go : (j : ℕ) → j < k + 1 → (b : Bool) → ltb j k ≡ b → get_or (set codes (first + k) (get_or run k 0)) (first + j) 0 ≡ get_or run j 0
-    go j h true e =
-        let l = ltb-true j k e in
-        get_or-set_other codes (first + k) (first + j) (get_or run k 0) 0 (λ q. omega arith) ∙ w.codes_at j l
-    go j h false e = let q : j ≡ k = omega (arith, ltb-false j k e) in rw q (get_or-set_same codes (first + k) (get_or run k 0) 0 fits)
+    n : length (take first before) ≡ first
+    n = length-take-le first before (omega arith)
+
+    k : length (take count run) ≡ count
+    k = length-take-le count run enough
+
+    all : length (take first before ++ (take count run ++ drop (first + count) before)) ≡ length before
+    all = simp (length-append, length-drop) (omega (arith, n, k))
+
+    inside : (i : ℕ) → i < count → get_or (take first before ++ (take count run ++ drop (first + count) before)) (first + i) 0 ≡ get_or run i 0
+    inside i h =
+        let e : first + i - first ≡ i = omega arith in
+        get_or-append_right (take first before) (take count run ++ drop (first + count) before) first (first + i) 0 n (omega arith)
+        ∙ rw e (get_or_append_left (take count run) (drop (first + count) before) 0 i (omega (arith, k)) ∙ get_or-take count run i 0 h)
+
+    earlier : (g : ℕ) → g < first → get_or (take first before ++ (take count run ++ drop (first + count) before)) g 0 ≡ get_or before g 0
+    earlier g h = get_or_append_left (take first before) (take count run ++ drop (first + count) before) 0 g (omega (arith, n)) ∙ get_or-take first before g 0 h
+
+    later : (g : ℕ) → first + count ≤ g → get_or (take first before ++ (take count run ++ drop (first + count) before)) g 0 ≡ get_or before g 0
+    later g h =
+        let e : first + count + (g - first - count) ≡ g = omega arith in
+        get_or-append_right (take first before) (take count run ++ drop (first + count) before) first g 0 n (omega arith)
+        ∙ get_or-append_right (take count run) (drop (first + count) before) count (g - first) 0 k (omega arith)
+        ∙ get_or-drop (first + count) before (g - first - count) 0
+        ∙ ap (λ (i : ℕ). get_or before i 0) e
 
 -- ---- a kept run of codes is a kept path
 module _ (m : Model) (w : PathKind) (r taken end : ℕ) (run before codes : List ℕ)
@@ -106,28 +118,27 @@ kind-start m w codes = record { kept = λ r h. absurd (omega arith); stays = λ 
 pub progress_start : (m : Model) (codes : List ℕ) → Progress m codes 0
 progress_start m codes k r h l = absurd (omega arith)
 
-pub progress_more : (m : Model) (codes after : List ℕ) (n : ℕ) (w : PathKind) → w ≡ kind_at n → Progress m codes n → KindStep m w (holders m w) codes after → Progress m after (n + 1)
-progress_more m codes after n w e p s k r h l = go (ltb k n) refl
+pub progress_more : (m : Model) (codes after : List ℕ) (n : ℕ) → Progress m codes n
+    → KindStep m (get_or kinds n Partner) (holders m (get_or kinds n Partner)) codes after → Progress m after (n + 1)
+progress_more m codes after n p s k r h l = go (ltb k n) refl
   where
-    go : (b : Bool) → ltb k n ≡ b → PathKept m (kind_at k) r after
-    go true f = s.stays (kind_at k) r l (p k r (ltb-true k n f) l)
+    go : (b : Bool) → ltb k n ≡ b → PathKept m (get_or kinds k Partner) r after
+    go true f = s.stays (get_or kinds k Partner) r l (p k r (ltb-true k n f) l)
     go false f =
         let q : k ≡ n = omega (arith, h, ltb-false k n f) in
-        let i : w ≡ kind_at k = e ∙ ap kind_at (sym q) in
-        subst (λ (x : PathKind). r < holders m x → PathKept m x r after) i (s.kept r) l
+        subst (λ (j : ℕ). r < holders m (get_or kinds j Partner) → PathKept m (get_or kinds j Partner) r after) (sym q) (s.kept r) l
 
 -- ---- with all kinds kept, every path has its codes
 module _ (m : Model) (codes : List ℕ) (p : Progress m codes 6) where
-  of_number : (n r k : ℕ) → n < 6 → r < holders m (kind_at n) → k < (path_of m (kind_at n) r).count
-      → get_or codes ((path_of m (kind_at n) r).first + k) 0 ≡ code_at m (start_of m (kind_at n) r) (path_of m (kind_at n) r).first k
+  of_number : (n r k : ℕ) → n < 6 → r < holders m (get_or kinds n Partner) → k < (path_of m (get_or kinds n Partner) r).count
+      → get_or codes ((path_of m (get_or kinds n Partner) r).first + k) 0 ≡ code_at m (start_of m (get_or kinds n Partner) r) (path_of m (get_or kinds n Partner) r).first k
   unfolding step_in code_at step_no
   of_number n r k l h i =
-      let f = (path_of m (kind_at n) r).first in
-      let e : (path_of m (kind_at n) r).first + k - (path_of m (kind_at n) r).first ≡ k = omega arith in
-      p n r l h ((path_of m (kind_at n) r).first + k) (in_run_lem (path_of m (kind_at n) r) ((path_of m (kind_at n) r).first + k) (omega arith) (omega arith)) ∙ rw e
+      let f = (path_of m (get_or kinds n Partner) r).first in
+      let e : (path_of m (get_or kinds n Partner) r).first + k - (path_of m (get_or kinds n Partner) r).first ≡ k = omega arith in
+      p n r l h ((path_of m (get_or kinds n Partner) r).first + k) (in_run_lem (path_of m (get_or kinds n Partner) r) ((path_of m (get_or kinds n Partner) r).first + k) (omega arith) (omega arith)) ∙ rw e
 
   of_kind_lem : (w : PathKind) (r k : ℕ) → r < holders m w → k < (path_of m w r).count → get_or codes ((path_of m w r).first + k) 0 ≡ code_at m (start_of m w r) (path_of m w r).first k
-  unfolding kind_at
   of_kind_lem Partner r k h i = of_number 0 r k (omega arith) h i
   of_kind_lem Key r k h i = of_number 1 r k (omega arith) h i
   of_kind_lem Dependent r k h i = of_number 2 r k (omega arith) h i

@@ -1,20 +1,21 @@
 -- The lowest number that passes one of several tests, one test after another.
-use Prim.Native.Nat.{ℕ, suc, ◌+◌, ◌≤◌, ◌<◌}
-use mathlib.Core.Path.{◌≡◌, refl, sym, subst, ◌∙◌}
+use Prim.Native.Nat.{ℕ, ◌+◌, ◌≤◌, ◌<◌}
+use mathlib.Core.Path.{◌≡◌, refl, sym, ap, subst, ◌∙◌}
 use mathlib.Core.Bool.{Bool, true, false, cond, ◌&&◌, ◌||◌}
 use native.Mathlib.Omega.{arith}
+use lib.ListN.{get_or}
 use lib.Dec.{ltb, leb}
 use borrow.Author.Tests.{ltb-true, ltb-false, leb-true, le-ltb}
-use Rattle.csdl.specs.Search.{any_from, first_from, some}
+use Rattle.std.specs.Bool.{then_some}
+use Rattle.csdl.specs.Search.{any_from, first_from, some, found}
 use Rattle.csdl.proofs.Logic.{any_of, none_any, first-is, none_first}
 use Rattle.csdl.specs.declared.Run.{Run}
 use Rattle.csdl.specs.Model.{Model, in_run}
-use Rattle.csdl.specs.Path.{holders, path_of}
+use Rattle.csdl.specs.Path.{kinds, holders, path_of}
 use Rattle.csdl.specs.declared.PathKind.{PathKind}
 use Rattle.csdl.specs.declared.PathKind.TheVariants.{Partner, Key, Dependent, Principal, Binding, Target}
 use Rattle.csdl.specs.Paths.{unresolved_in, unresolved_of, unresolved, segment14}
 use Rattle.csdl.proofs.Clauses.{rule14-is}
-use Rattle.path_kinds.specs.Kinds.{kind_at}
 use Rattle.rules_segments.specs.Lowest.{Lowest}
 
 -- The first n tests of a family have been asked.
@@ -70,11 +71,12 @@ empty_path m w r bound h = record {
 }
 
 -- The search from 0 finds the lowest number.
-pub lowest_found : (test : ℕ → Bool) (n low : ℕ) → Lowest test n low → low < n → low + 1 ≡ first_from test 0 n
-lowest_found test n low l h = let e : low + 1 ≡ suc low = omega arith in e ∙ sym (first-is test 0 n low (omega arith) (omega arith) (l.hit h) (λ j a b. l.below j b))
-
-pub lowest_none : (test : ℕ → Bool) (n low : ℕ) → Lowest test n low → n ≤ low → 0 ≡ first_from test 0 n
-lowest_none test n low l h = sym (none_first test 0 n (λ j a b. l.below j (omega (arith, l.most))))
+pub lowest_found : (test : ℕ → Bool) (n low : ℕ) → Lowest test n low → then_some (ltb low n) low ≡ found (first_from test 0 n)
+lowest_found test n low l = go (ltb low n) refl
+  where
+    go : (b : Bool) → ltb low n ≡ b → then_some b low ≡ found (first_from test 0 n)
+    go true e = let h = ltb-true low n e in ap found (sym (first-is test 0 n low (omega arith) (omega arith) (l.hit h) (λ j a b. l.below j b)))
+    go false e = let h = ltb-false low n e in ap found (sym (none_first test 0 n (λ j a b. l.below j (omega (arith, l.most)))))
 
 -- Six tests, by number or joined.
 any_six : (a b c d e f : Bool) → cond a true (cond b true (cond c true (cond d true (cond e true (cond f true false))))) ≡ (a || (b || (c || (d || (e || (f || false))))))
@@ -86,16 +88,16 @@ any_six false false false false true f = refl
 any_six false false false false false true = refl
 any_six false false false false false false = refl
 
-pub any-kind : (m : Model) (g : ℕ) → any_from (λ j. unresolved_of m (kind_at j) g) 0 6 ≡ segment14 m g
-unfolding any_from kind_at unresolved some
+pub any-kind : (m : Model) (g : ℕ) → any_from (λ j. unresolved_of m (get_or kinds j Partner) g) 0 6 ≡ segment14 m g
+unfolding any_from unresolved some
 any-kind m g =
     any_six (unresolved_of m Partner g) (unresolved_of m Key g) (unresolved_of m Dependent g) (unresolved_of m Principal g) (unresolved_of m Binding g) (unresolved_of m Target g)
     ∙ sym (rule14-is m g)
 
 -- The lowest segment that does not resolve, by all kinds.
-pub lowest_14 : (m : Model) (bound low : ℕ) → Least (λ j g. unresolved_of m (kind_at j) g) bound 6 low → Lowest (λ g. segment14 m g) bound low
+pub lowest_14 : (m : Model) (bound low : ℕ) → Least (λ j g. unresolved_of m (get_or kinds j Partner) g) bound 6 low → Lowest (λ g. segment14 m g) bound low
 lowest_14 m bound low l =
-    let s = least_any (λ j g. unresolved_of m (kind_at j) g) bound 6 low l in
+    let s = least_any (λ j g. unresolved_of m (get_or kinds j Partner) g) bound 6 low l in
     record { most = s.most; below = λ g h. rw (← any-kind m g) (s.below g h); hit = λ h. rw (← any-kind m low) (s.hit h) }
 
 -- The lowest segment at which a path of one kind does not resolve, by all its records.

@@ -3,4 +3,3 @@ pub mod Least
 pub mod Resolved
 pub mod Keeping
 pub mod Resolving
-pub mod InImage

@@ -1,11 +1,11 @@
 -- The codes of the segments, kept path by path, and what a model has to keep for it.
 use Rattle.std.specs.Prelude.{ℕ, ◌+◌, ◌≤◌, ◌<◌, ◌≡◌, List, true, false, ◌⊎◌, length, get_or}
 use Rattle.csdl.specs.Model.{Model, in_run}
-use Rattle.csdl.specs.Path.{holders, path_of, step_in}
+use Rattle.csdl.specs.Path.{kinds, holders, path_of, step_in}
 use Rattle.csdl.specs.declared.PathKind.{PathKind}
+use Rattle.csdl.specs.declared.PathKind.TheVariants.{Partner}
 use Rattle.csdl.specs.Paths.{segment13}
 use Rattle.csdl.specs.Verdict.{step_code}
-use Rattle.path_kinds.specs.Kinds.{kind_at}
 
 -- The codes of a run were kept at the numbers of its segments, and nothing else changed.
 pub record RunKept (run : List ℕ) (first count : ℕ) (before codes : List ℕ) : Type 0 where
@@ -37,7 +37,7 @@ pub record KindStep (m : Model) (w : PathKind) (n : ℕ) (before codes : List �
 
 -- Every path of the first n kinds has its codes.
 abbrev pub Progress : Model → List ℕ → ℕ → Type 0
-Progress m codes n = (k r : ℕ) → k < n → r < holders m (kind_at k) → PathKept m (kind_at k) r codes
+Progress m codes n = (k r : ℕ) → k < n → r < holders m (get_or kinds k Partner) → PathKept m (get_or kinds k Partner) r codes
 
 -- The entries past the segments stay as they were.
 abbrev pub PastKept : Model → List ℕ → List ℕ → Type 0

@@ -1,4 +1,3 @@
 pub mod Cover
 pub mod Lowest
 pub mod Kept
-pub mod Indexes

@@ -1,75 +1,57 @@
 // Rule 10, of a property.
-ghost use Rattle.std.specs.Prelude.{◌≡◌, [], ◌||◌};
-ghost use Rattle.csdl.specs.Search.{first_from};
-ghost use Rattle.csdl.specs.Tables.{property_count};
-ghost use Rattle.csdl.specs.Model.{model_of};
+ghost use Rattle.model_image.specs.Read.{model_read};
+ghost use Rattle.std.specs.Prelude.{◌≡◌, ◌||◌};
+ghost use Rattle.csdl.specs.Search.{first_from, found};
 ghost use Rattle.csdl.specs.Properties as rules;
-ghost use Rattle.model_image.specs.Limits.{FewProperties, FewTypes};
 
-use model_image::properties::{
-    property_collection, property_contains, property_count, property_navigation, property_nullable,
-    property_owner, property_partner, property_type_ref,
-};
-use model_image::types::type_underlying;
+use csdl::TypeKind;
+use model_image::model::Model;
 use type_hierarchy::kinds::{of_kind, structured};
 
 // Whether x is Stream, or a type definition of it.
-fn is_stream(types: &[u8], x: u16) -> bool
-    requires { FewTypes types.now }
-    ensures { result ≡ rules.is_stream (model_of [] types.now [] [] [] [] [] [] []) x }
+fn is_stream(model: &Model, x: u16) -> bool
+    ensures { result ≡ rules.is_stream (model_read model.now) x }
 {
-    (x == 79) | (of_kind(types, 3, x) & (type_underlying(types, x) == 15))
+    (x == 79) | (of_kind(model, TypeKind::Definition, x) & (model.type_underlying(x) == 15))
 }
 
 // 10a to 10d: owner and type, and containment.
-fn kinds_misfit(types: &[u8], properties: &[u8], p: u16) -> bool
-    requires { FewTypes types.now }
-    ensures { result ≡ (rules.property10a (model_of [] types.now properties.now [] [] [] [] [] []) p || rules.property10b (model_of [] types.now properties.now [] [] [] [] [] []) p || rules.property10c (model_of [] types.now properties.now [] [] [] [] [] []) p || rules.property10d (model_of [] types.now properties.now [] [] [] [] [] []) p) }
+fn kinds_misfit(model: &Model, p: u16) -> bool
+    ensures { result ≡ (rules.property10a (model_read model.now) p || rules.property10b (model_read model.now) p || rules.property10c (model_read model.now) p || rules.property10d (model_read model.now) p) }
 {
-    let owned = structured(types, property_owner(properties, p));
-    let navigation = property_navigation(properties, p);
-    let entity = of_kind(types, 0, property_type_ref(properties, p));
+    let owned = structured(model, model.property_owner(p));
+    let navigation = model.property_navigation(p);
+    let entity = of_kind(model, TypeKind::Entity, model.property_type_ref(p));
     !owned
         | (navigation & !entity)
         | (!navigation & entity)
-        | (!navigation & property_contains(properties, p))
+        | (!navigation & model.property_contains(p))
 }
 
 // 10e to 10h: partner, collections.
-fn flags_misfit(types: &[u8], properties: &[u8], p: u16) -> bool
-    requires { FewTypes types.now }
-    ensures { result ≡ (rules.property10e (model_of [] types.now properties.now [] [] [] [] [] []) p || rules.property10f (model_of [] types.now properties.now [] [] [] [] [] []) p || rules.property10g (model_of [] types.now properties.now [] [] [] [] [] []) p || rules.property10h (model_of [] types.now properties.now [] [] [] [] [] []) p) }
+fn flags_misfit(model: &Model, p: u16) -> bool
+    ensures { result ≡ (rules.property10e (model_read model.now) p || rules.property10f (model_read model.now) p || rules.property10g (model_read model.now) p || rules.property10h (model_read model.now) p) }
 {
-    let navigation = property_navigation(properties, p);
-    let collection = property_collection(properties, p);
-    let partner = property_partner(properties, p);
-    let paired = partner.count != 0;
+    let navigation = model.property_navigation(p);
+    let collection = model.property_collection(p);
+    let paired = model.property_partner(p).count != 0;
     (!navigation & paired)
-        | (navigation & collection & property_nullable(properties, p))
-        | (collection & is_stream(types, property_type_ref(properties, p)))
-        | (paired & of_kind(types, 1, property_owner(properties, p)))
+        | (navigation & collection & model.property_nullable(p))
+        | (collection & is_stream(model, model.property_type_ref(p)))
+        | (paired & of_kind(model, TypeKind::Complex, model.property_owner(p)))
 }
 
 // Whether the property breaks rule 10.
-fn property_10(types: &[u8], properties: &[u8], p: u16) -> bool
-    requires { FewTypes types.now }
-    ensures { result ≡ rules.property10 (model_of [] types.now properties.now [] [] [] [] [] []) p }
+#[tactic(auto, using(crate::proofs::Bools::or_fours), unfolding(csdl::specs::Properties::property10))]
+fn property_10(model: &Model, p: u16) -> bool
+    ensures { result ≡ rules.property10 (model_read model.now) p }
 {
-    kinds_misfit(types, properties, p) | flags_misfit(types, properties, p)
+    kinds_misfit(model, p) | flags_misfit(model, p)
 }
 
-// The first property that breaks rule 10: 0 for none, else its number plus 1.
-pub fn first_10(types: &[u8], properties: &[u8]) -> u16
-    requires { FewTypes types.now × FewProperties properties.now }
-    ensures { result ≡ first_from (λ p. rules.property10 (model_of [] types.now properties.now [] [] [] [] [] []) p) 0 (property_count properties.now) }
+// The first property that breaks rule 10.
+pub fn first_10(model: &Model) -> Option<u16>
+    ensures { result ≡ found (first_from (λ p. rules.property10 (model_read model.now) p) 0 (model_read model.now).properties) }
 {
-    let n = property_count(properties);
-    let mut p: u16 = 0;
-    while p < n {
-        if property_10(types, properties, p) {
-            return p + 1;
-        }
-        p += 1;
-    }
-    0
+    (0..model.property_count()).find(|p| property_10(model, *p))
 }

@@ -5,6 +5,7 @@ use mathlib.Core.List.{List, [], ◌∷◌, ◌++◌, append-nil}
 use mathlib.Core.Bool.{Bool, true, false}
 use native.Mathlib.Nat.{add-zero}
 use native.Mathlib.Omega.{arith}
+use Rattle.std.proofs.Common.{Result, Ok, Err}
 use lib.ListN.{length, drop, get_or}
 use lib.Seq.{get_or-take, get_or-drop, length-take-le}
 use borrow.Author.Tests.{le-ltb}
@@ -18,8 +19,7 @@ use Rattle.csdl.specs.Path.{step_of_segment}
 use Rattle.csdl.specs.Accepted.{ModelPasses}
 use Rattle.csdl.specs.Verdict.{verdict, model_means, model_then, model_answer, model_buffer, resolution, step_code, bytes_of}
 use Rattle.csdl.specs.Verdict.Answer.{accepted}
-use Rattle.csdl.specs.declared.ModelAnswer.{ModelAnswer}
-use Rattle.csdl.specs.declared.ModelAnswer.TheVariants.{Accepted, Refused}
+use Rattle.csdl.specs.declared.Refusal.{Refusal}
 use Rattle.csdl.proofs.Logic.{tab-length, tab-at}
 use Rattle.csdl.proofs.Bounds.{segments-most}
 use Rattle.csdl.proofs.Verdicts.{model_then_accepts}
@@ -83,20 +83,20 @@ said text {out} {word} {after} {n} e p =
     let fits : n ≤ length after = omega (arith, p.within, p.same_length) in
     (rw (← e) s.0, (rw (← e) s.1, (fits, sym (length-take-le n after fits))))
 
-module _ (image : List ℕ) (r : ModelAnswer) (means : model_means r ≡ mark_of image) where
-  pub first-accepted : (s : ℕ) → r ≡ Accepted s → accepted_line s ≡ first_text image
+module _ (image : List ℕ) (r : Result ℕ Refusal) (means : model_means r ≡ mark_of image) where
+  pub first-accepted : (s : ℕ) → r ≡ Ok s → accepted_line s ≡ first_text image
   unfolding first_line model_means
   first-accepted s e = rw (← means, e)
 
-  pub first-refused : (rule place : ℕ) → r ≡ Refused rule place → refused_line rule place ≡ first_text image
+  pub first-refused : (x : Refusal) → r ≡ Err x → refused_line x.rule x.place ≡ first_text image
   unfolding first_line model_means
-  first-refused rule place e = rw (← means, e)
+  first-refused x e = rw (← means, e)
 
-  pub refused-text : (rule place : ℕ) → r ≡ Refused rule place → refused_line rule place ≡ mark_text image
+  pub refused-text : (x : Refusal) → r ≡ Err x → refused_line x.rule x.place ≡ mark_text image
   unfolding mark_text first_line model_means
-  refused-text rule place e = rw (← means, e) (sym (append-nil (refused_line rule place)))
+  refused-text x e = rw (← means, e) (sym (append-nil (refused_line x.rule x.place)))
 
-  module _ (s : ℕ) (e : r ≡ Accepted s) where
+  module _ (s : ℕ) (e : r ≡ Ok s) where
     is-accepted : mark_of image ≡ accepted (s ∷ [])
     unfolding model_means
     is-accepted = sym means ∙ rw e

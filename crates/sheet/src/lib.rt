@@ -6,8 +6,8 @@ ghost use Rattle.io.specs.Counts.{IsPrefixLen};
 ghost use Rattle.csdl.specs.Verdict.{model_means, model_buffer};
 ghost use Rattle.sheet.specs.Sheet.{mark_of, first_text, mark_text};
 
-use csdl::ModelAnswer;
-use model_image::layout::layout_of;
+use csdl::Refusal;
+use model_image::model::Model;
 use sheet_lines::line::{accepted_line, refused_line, segment_lines};
 
 // Two bytes for each of the 1,024 segments that an image has at most, so that rule 2 is never broken.
@@ -22,11 +22,11 @@ pub const SHEET_SIZE: usize = 21519;
 // The answer of the check and the length of the line that says it.
 #[derive(Clone, Copy)]
 pub struct Marked {
-    pub answer: ModelAnswer,
+    pub answer: Result<u16, Refusal>,
     pub size: usize,
 }
 
-fn check(image: &[u8], resolution: &mut [u8]) -> ModelAnswer
+fn check(image: &[u8], resolution: &mut [u8]) -> Result<u16, Refusal>
     requires { 2048 ≤ length resolution.old }
     ensures result_value { model_means result ≡ mark_of image.now }
     ensures resolution_after { resolution.new ≡ model_buffer image.now resolution.old }
@@ -48,13 +48,13 @@ pub fn first_line(
 {
     let answer = check(image, resolution);
     match answer {
-        ModelAnswer::Accepted { segments } => Marked {
-            answer: answer,
+        Ok(segments) => Marked {
+            answer,
             size: accepted_line(segments, out),
         },
-        ModelAnswer::Refused { rule, place } => Marked {
-            answer: answer,
-            size: refused_line(rule, place, out),
+        Err(refusal) => Marked {
+            answer,
+            size: refused_line(refusal.rule, refusal.place, out),
         },
     }
 }
@@ -68,11 +68,11 @@ pub fn mark_sheet(image: &[u8], out: &mut [u8; SHEET_SIZE]) -> usize
     let mut resolution = [0u8; RESOLUTION_SIZE];
     let answer = check(image, &mut resolution);
     match answer {
-        ModelAnswer::Accepted { segments } => {
+        Ok(segments) => {
             let n = accepted_line(segments, out);
-            let at = layout_of(image);
-            segment_lines(&resolution, at.segments_place, segments, out, n)
+            let first = Model::read(image).segments_at();
+            segment_lines(&resolution, first, segments, out, n)
         }
-        ModelAnswer::Refused { rule, place } => refused_line(rule, place, out),
+        Err(refusal) => refused_line(refusal.rule, refusal.place, out),
     }
 }

@@ -4,7 +4,7 @@ ghost use Rattle.sheet_lines.specs.Text.{accepted_line, refused_line, segment_li
 ghost use Rattle.sheet_lines.specs.Put.{put, Put};
 
 use crate::text::{put_byte, put_decimal, put_word};
-use packed::byte_at;
+use packed::number_at;
 
 pub fn accepted_line(segments: u16, out: &mut [u8]) -> usize
     requires { 15 ≤ length out.old }
@@ -49,8 +49,7 @@ fn segment_line(place: u16, code: u16, out: &mut [u8], at: usize) -> usize
 fn code_at(codes: &[u8], g: u16) -> u16
     ensures { result ≡ 256 * get_or codes.now (2 * g) 0 + get_or codes.now (2 * g + 1) 0 }
 {
-    let k = 2 * (g as usize);
-    (256 * byte_at(codes, k) + byte_at(codes, k + 1)) as u16
+    number_at(codes, g)
 }
 
 // A line for each of the segments, of which the first has the place `first`.

@@ -1,4 +1,4 @@
-// Words and numbers, put into an array of bytes one after the other.
+// Words and numbers, put into an array of bytes one after the other: in memory of a fixed size, since to print a mark cannot fail.
 ghost use Rattle.std.specs.Prelude.{◌∷◌, [], ◌+◌, ◌≤◌, ◌<◌, length};
 ghost use Rattle.sheet_lines.specs.Text.{decimal};
 ghost use Rattle.sheet_lines.specs.Put.{Put};
@@ -17,12 +17,8 @@ pub(crate) fn put_word(out: &mut [u8], at: usize, word: &[u8]) -> usize
     requires { at + length word.now ≤ length out.old }
     ensures { Put out.old at word.now out.new result }
 {
-    let mut end = at;
-    let mut i: usize = 0;
-    while i < word.len() {
-        end = put_byte(out, end, word[i]);
-        i += 1;
-    }
+    let end = at + word.len();
+    out[at..end].copy_from_slice(word);
     end
 }
 

@@ -10,6 +10,7 @@ use native.Mathlib.Omega.{arith}
 use lib.ListN.{length}
 use lib.Dec.{ltb}
 use borrow.Author.Tests.{ltb-true, ltb-false, lt-ltb, le-ltb, not-false}
+use Rattle.std.proofs.Common.{Option, Some, None}
 use Rattle.csdl.specs.Image.{model_in}
 use Rattle.csdl.specs.Find.{ancestor_or_self}
 use Rattle.csdl.specs.Path.{Segment, segments_of, resolves, end_of, path_of, start_of, path_end}
@@ -19,8 +20,7 @@ use Rattle.csdl.specs.Instance.{instance_in, item_bytes}
 use Rattle.csdl.specs.Conforms.{instance_answer}
 use Rattle.csdl.specs.Verdict.Answer.{accepted}
 use Rattle.csdl.specs.Walk.{walked, opened, reaches_end, start, chosen_start, walk27, walk28, walk29, walk_path, walk_results, walk_opened, walk_answer, result_bytes}
-use Rattle.csdl.specs.declared.Chosen.{Chosen}
-use Rattle.csdl.specs.declared.Chosen.TheVariants.{NoPath, PathOf}
+use Rattle.csdl.specs.declared.Holder.{Holder}
 use Rattle.csdl.specs.Walk.Item.{value}
 use Rattle.csdl.specs.Relations.{Ancestor}
 use Rattle.csdl.specs.Types.{type9, rule9}
@@ -78,14 +78,14 @@ module _ (model image : List ℕ) (conforms : instance_answer model image ≡ ac
   every_path w r h = demand (model_in model) (instance_in image) of_model of_instance (path_way (model_in model) passes-all.model_passes.model_kept of_model w r h)
 
   -- Each such path has a place and a number, by which a walk takes it; and what a place and a number choose is such a path.
-  pub each_has_place : (w : PathKind) (r : ℕ) → Held (model_in model) w r → walk_path model (held_place (model_in model) w r) (held_number w) ≡ PathOf w r
+  pub each_has_place : (w : PathKind) (r : ℕ) → Held (model_in model) w r → walk_path model (held_place (model_in model) w r) (held_number w) ≡ Some (record { kind = w; number = r })
   each_has_place w r h = held_chosen (model_in model) w r h
 
-  pub each-is_held : (place n : ℕ) (w : PathKind) (r : ℕ) → walk_path model place n ≡ PathOf w r → Held (model_in model) w r
+  pub each-is_held : (place n : ℕ) (w : PathKind) (r : ℕ) → walk_path model place n ≡ Some (record { kind = w; number = r }) → Held (model_in model) w r
   each-is_held place n w r e = held_at (model_in model) place n w r e
 
   -- The clauses, over what a walk answers and writes: place and path number n choose the path.
-  module _ (place n : ℕ) (w : PathKind) (r : ℕ) (path : walk_path model place n ≡ PathOf w r)
+  module _ (place n : ℕ) (w : PathKind) (r : ℕ) (path : walk_path model place n ≡ Some (record { kind = w; number = r }))
       (v : ℕ) (there : v < (instance_in image).nodes)
       (fitting : ancestor_or_self (model_in model) (start_of (model_in model) w r) ((instance_in image).node_type v) ≡ true) where
     holds_it : Held (model_in model) w r
@@ -177,17 +177,17 @@ premises_of_walk model image place n v buffer values e =
     go a.0 a.1 (walk_path model place n) refl a.0.kept27 a.0.kept28
   where
     go : WalkPasses model image place n v buffer → values ≡ length (walk_results model image place n v) ∷ length (walk_opened model image place n v) ∷ [] →
-        (c : Chosen) → walk_path model place n ≡ c → walk27 c ≡ false → walk28 (model_in model) (instance_in image) (chosen_start (model_in model) c) v ≡ false →
+        (c : Option Holder) → walk_path model place n ≡ c → walk27 c ≡ false → walk28 (model_in model) (instance_in image) (chosen_start (model_in model) c) v ≡ false →
         Premises model image place n v buffer values
-    go p s NoPath q x y = absurd (false≢true (sym x))
-    go p s (PathOf w r) q x y =
+    go p s None q x y = absurd (false≢true (sym x))
+    go p s (Some h) q x y =
         let there = ltb v (instance_in image).nodes in
-        let fits = ancestor_or_self (model_in model) (start_of (model_in model) w r) ((instance_in image).node_type v) in
+        let fits = ancestor_or_self (model_in model) (start_of (model_in model) h.kind h.number) ((instance_in image).node_type v) in
         let z = or_no (not there) (not fits) y in
         record {
           conforms = (instance_accepts model image).1 p.instance_passes;
-          kind = w;
-          holder = r;
+          kind = h.kind;
+          holder = h.number;
           path = q;
           there = ltb-true v (instance_in image).nodes (not-false there z.0);
           fitting = not-false fits z.1;

@@ -7,6 +7,7 @@ use mathlib.Core.Logic.{⊎_elim}
 use native.Mathlib.Omega.{arith}
 use lib.Dec.{eqb, ltb}
 use borrow.Author.Tests.{eqb-false, ltb-true, ltb-false, not-false, not-true}
+use Rattle.std.proofs.Common.{Option, Some, None}
 use Rattle.csdl.specs.Search.{tab, all, some, but_last, last_or}
 use Rattle.csdl.specs.Model.{Model, present, in_run, record_at, types_at, properties_at, keys_at, constraints_at, children_at, bindings_at, segments_at, places}
 use Rattle.csdl.specs.Find.{complex, complex_step, contain_step, integral, structured}
@@ -18,8 +19,7 @@ use Rattle.csdl.specs.declared.PathKind.TheVariants.{Partner, Key, Dependent, Pr
 use Rattle.csdl.proofs.Clauses.{rule14-is, no_kind}
 use Rattle.csdl.specs.Paths.{unresolved_in, unresolved_of, unresolved, rule14, has_cast, key_step, key_end, key_type, key15, key15c, key15d, key15e, rule15, constraint_step, broken_inner, constraint16, rule16, property17, property17b, rule17, non_containment, target_step, binding19, binding19c, binding19g, rule19}
 use Rattle.csdl.specs.Walk.{if_present, path_chosen}
-use Rattle.csdl.specs.declared.Chosen.{Chosen}
-use Rattle.csdl.specs.declared.Chosen.TheVariants.{NoPath, PathOf}
+use Rattle.csdl.specs.declared.Holder.{Holder}
 use Rattle.csdl.specs.declared.Record.{Record}
 use Rattle.csdl.specs.declared.Record.TheVariants.{OfSchema, OfType, OfProperty, OfKey, OfConstraint, OfChild, OfBinding, OfSegment, Nowhere}
 use Rattle.csdl.specs.Accepted.{ModelKept}
@@ -59,36 +59,36 @@ in_table m place =
     taken (InTable m) (ltb place (segments_at m)) _ _ (λ h. omega (arith, ltb-true place (segments_at m) h, ltb-false place (bindings_at m) h6)) (λ h7.
     taken (InTable m) (ltb place (places m)) _ _ (λ h. omega (arith, ltb-true place (places m) h, ltb-false place (segments_at m) h7)) (λ h. tt))))))))
 
-unfoldable HeldBy : Model → Chosen → Type 0
-HeldBy m NoPath = Unit {0}
-HeldBy m (PathOf w r) = Held m w r
+unfoldable HeldBy : Model → Option Holder → Type 0
+HeldBy m None = Unit {0}
+HeldBy m (Some h) = Held m h.kind h.number
 
 held_by_lem : (m : Model) (w : PathKind) (r : ℕ) → r < holders m w → HeldBy m (if_present m w r)
 unfolding HeldBy
-held_by_lem m w r l = taken (HeldBy m) (present (path_of m w r)) (PathOf w r) NoPath (λ e. record { holder-there = l; path-there = e }) (λ e. tt)
+held_by_lem m w r l = taken (HeldBy m) (present (path_of m w r)) (Some (record { kind = w; number = r })) None (λ e. record { holder-there = l; path-there = e }) (λ e. tt)
 
 all_held : (m : Model) (r : Record) (n : ℕ) → InTable m r → HeldBy m (path_chosen m r n)
 unfolding HeldBy path_chosen InTable holders
 all_held m (OfSchema s) n l = tt
 all_held m (OfType t) n l = tt
-all_held m (OfProperty p) n l = taken (HeldBy m) (eqb n 0) (if_present m Partner p) NoPath (λ e. held_by_lem m Partner p l) (λ e. tt)
-all_held m (OfKey k) n l = taken (HeldBy m) (eqb n 0) (if_present m Key k) NoPath (λ e. held_by_lem m Key k l) (λ e. tt)
+all_held m (OfProperty p) n l = taken (HeldBy m) (eqb n 0) (if_present m Partner p) None (λ e. held_by_lem m Partner p l) (λ e. tt)
+all_held m (OfKey k) n l = taken (HeldBy m) (eqb n 0) (if_present m Key k) None (λ e. held_by_lem m Key k l) (λ e. tt)
 all_held m (OfConstraint c) n l =
     taken (HeldBy m) (eqb n 0) (if_present m Dependent c) _ (λ e. held_by_lem m Dependent c l)
-    (λ e. taken (HeldBy m) (eqb n 1) (if_present m Principal c) NoPath (λ f. held_by_lem m Principal c l) (λ f. tt))
+    (λ e. taken (HeldBy m) (eqb n 1) (if_present m Principal c) None (λ f. held_by_lem m Principal c l) (λ f. tt))
 all_held m (OfChild h) n l = tt
 all_held m (OfBinding b) n l =
     taken (HeldBy m) (eqb n 0) (if_present m Binding b) _ (λ e. held_by_lem m Binding b l)
-    (λ e. taken (HeldBy m) (eqb n 1) (if_present m Target b) NoPath (λ f. held_by_lem m Target b l) (λ f. tt))
+    (λ e. taken (HeldBy m) (eqb n 1) (if_present m Target b) None (λ f. held_by_lem m Target b l) (λ f. tt))
 all_held m (OfSegment g) n l = tt
 all_held m Nowhere n l = tt
 
-pub held_at : (m : Model) (place n : ℕ) (w : PathKind) (r : ℕ) → path_chosen m (record_at m place) n ≡ PathOf w r → Held m w r
+pub held_at : (m : Model) (place n : ℕ) (w : PathKind) (r : ℕ) → path_chosen m (record_at m place) n ≡ Some (record { kind = w; number = r }) → Held m w r
 unfolding HeldBy
 held_at m place n w r e = subst (HeldBy m) e (all_held m (record_at m place) n (in_table m place))
 
 -- Each held path is the one that its place and number choose.
-pub held_chosen : (m : Model) (w : PathKind) (r : ℕ) → Held m w r → path_chosen m (record_at m (held_place m w r)) (held_number w) ≡ PathOf w r
+pub held_chosen : (m : Model) (w : PathKind) (r : ℕ) → Held m w r → path_chosen m (record_at m (held_place m w r)) (held_number w) ≡ Some (record { kind = w; number = r })
 unfolding path_chosen held_place held_number holders
 held_chosen m Partner r h = rw (property-at m r h.holder-there, h.path-there)
 held_chosen m Key r h = rw (key_at m r h.holder-there, h.path-there)

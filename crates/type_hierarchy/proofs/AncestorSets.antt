@@ -2,45 +2,29 @@
 use Prim.Native.Nat.{ℕ, zero, suc, ◌+◌, ◌*◌, ◌-◌, ◌^◌, ◌≤◌, ◌<◌}
 use mathlib.Core.Path.{◌≡◌, refl, sym, ◌∙◌}
 use mathlib.Core.List.{List}
-use mathlib.Core.Bool.{Bool, true, false, cond, ◌||◌, or_comm, or-false}
+use mathlib.Core.Bool.{Bool, true, false, cond, ◌||◌, or-false}
 use native.Mathlib.Omega.{arith}
 use borrow.Author.Tests.{ne_eqb, lt-ltb, le-ltb}
 use lib.Dec.{eqb, ltb}
 use lib.ListN.{length, get_or, set, replicate}
-use Rattle.packed.proofs.Laws.{field_lt, field_past}
+use Rattle.packed.proofs.Laws.{field_lt}
 use Rattle.csdl.specs.Search.{tab}
-use Rattle.csdl.specs.Tables.{type_base}
+use Rattle.csdl.specs.Tables.{type_base, type_count}
 use Rattle.csdl.specs.Climb.{climb}
 use Rattle.csdl.proofs.Climbing.{climb_test}
 use Rattle.csdl.proofs.Logic.{less_one, tab-length, tab-at, tab_past, below_or_not}
 use Rattle.type_hierarchy.specs.Sets.{member, set_of, Members}
-use Rattle.type_hierarchy.specs.AncestorSets.{rows_to}
+use Rattle.type_hierarchy.specs.AncestorSets.{rows_to, ancestors_of}
 use Rattle.type_hierarchy.proofs.SetLaws.{member-none, member-set, holds-set}
 use Rattle.type_hierarchy.proofs.Tables.{tab-more}
+use Rattle.type_hierarchy.proofs.Climb.{climb-none}
+use Rattle.type_hierarchy.proofs.Past.{base_past}
 
 or_again : (s x r : Bool) → (s || x) || r ≡ s || (x || r)
 or_again true x r = refl
 or_again false x r = refl
 
-module _ (next : ℕ → ℕ) (t : ℕ) where
-  pub above_out : (left : ℕ) → left ≡ 0 → Members 64 0 (λ a. climb next left a t)
-  unfolding climb
-  above_out left h = λ a l. rw h (member-none a)
-
-  module _ (b : ℕ) (e : b ≡ next t) where
-    pub above_none : (left : ℕ) → b ≡ 0 → Members 64 0 (λ a. climb next left a t)
-    unfolding climb
-    above_none zero h = λ a l. member-none a
-    above_none (suc n) h = λ a l. rw (← e, h) (member-none a)
-
-    pub above_up : (left s r : ℕ) → (left ≡ 0 → ⊥) → (b ≡ 0 → ⊥) → Members 64 s (λ a. climb next (left - 1) a (b - 1)) → Members 64 r (λ a. member s a || eqb (b - 1) a) → Members 64 r (λ a. climb next left a t)
-    unfolding climb
-    above_up zero s r p n q w = absurd (p refl)
-    above_up (suc k) s r p n q w =
-        λ a l. let i : member s a ≡ climb next k a (b - 1) = rw less_one at (q a l) in
-        rw (w a l, i, or_comm (climb next k a (b - 1)) (eqb (b - 1) a), climb_test next k t a, ← e, ne_eqb b 0 n)
-
--- The same of a climb that takes a set with it.
+-- The climb takes a set with it.
 module _ (next : ℕ → ℕ) (set t : ℕ) where
   pub with_out : (left : ℕ) → left ≡ 0 → Members 64 set (λ a. member set a || climb next left a t)
   unfolding climb
@@ -89,6 +73,13 @@ module _ (test : ℕ → ℕ → Bool) where
   rows_row n t h l =
       rw (tab-at (λ u. cond (ltb u n) (set_of (λ a. test u a) 64) 0) 0 64 t (omega arith), lt-ltb t n l) (λ a k. member-set (λ b. test t b) 64 a k)
 
+module _ (types : List ℕ) (t : ℕ) where
+  pub ancestors_row : t < 64 → Members 64 (get_or (ancestors_of types) t 0) (λ a. climb (λ u. type_base types u) (type_count types) a t)
+  ancestors_row l = rows_row (λ t a. climb (λ u. type_base types u) (type_count types) a t) 64 t (omega arith) l
+
+  pub ancestors_past : 64 ≤ t → length types ≤ 384 → Members 64 0 (λ a. climb (λ u. type_base types u) (type_count types) a t)
+  ancestors_past l few = λ a h. member-none a ∙ climb-none (λ u. type_base types u) t 0 (sym (base_past types t (omega (arith, l, few)))) a (type_count types) refl
+
 -- The bases, read one after the other.
 abbrev pub bases_to : List ℕ → ℕ → List ℕ
 bases_to types n = tab (λ t. cond (ltb t n) (type_base types t) 0) 0 128
@@ -101,10 +92,8 @@ module _ (types : List ℕ) where
   pub bases_most : (bases : List ℕ) → ((t : ℕ) → get_or bases t 0 ≡ type_base types t) → (t : ℕ) → get_or bases t 0 ≤ 128
   bases_most bases e t = omega (arith, e t, field_lt types (48 * t + 10) 7)
 
-  pub bases_end : (n t : ℕ) → length types ≤ 6 * n → n ≤ 64 → get_or (bases_to types n) t 0 ≡ type_base types t
+  pub bases_end : (n t : ℕ) → length types ≤ 6 * n → length types ≤ 384 → get_or (bases_to types n) t 0 ≡ type_base types t
   bases_end n t all few =
-      below_or_not t n
-      (λ l. tab-at (λ t. cond (ltb t n) (type_base types t) 0) 0 128 t (omega arith) ∙ rw (lt-ltb t n l))
-      (λ l. below_or_not t 128
-      (λ k. tab-at (λ t. cond (ltb t n) (type_base types t) 0) 0 128 t k ∙ rw (le-ltb t n l) (sym (field_past types (48 * t + 10) 7 (omega (arith, l, all)))))
-      (λ k. tab_past (λ t. cond (ltb t n) (type_base types t) 0) 0 0 128 t k ∙ sym (field_past types (48 * t + 10) 7 (omega (arith, k, all, few)))))
+      below_or_not t 128
+      (λ k. tab-at (λ t. cond (ltb t n) (type_base types t) 0) 0 128 t k ∙ below_or_not t n (λ l. rw (lt-ltb t n l)) (λ l. rw (le-ltb t n l) (sym (base_past types t (omega (arith, l, all))))))
+      (λ k. tab_past (λ t. cond (ltb t n) (type_base types t) 0) 0 0 128 t k ∙ sym (base_past types t (omega (arith, k, few))))

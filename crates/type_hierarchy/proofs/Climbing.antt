@@ -3,14 +3,17 @@ use Prim.Native.Nat.{ℕ, zero, suc, ◌-◌, ◌<◌}
 use mathlib.Core.Path.{◌≡◌, refl, sym, ap, ◌∙◌}
 use mathlib.Core.List.{List}
 use mathlib.Core.Logic.{◌⊎◌, inl, inr}
+use native.Mathlib.Omega.{arith}
+use Rattle.std.proofs.Common.{Some, None}
 use lib.ListN.{length, get_or, set, length-set, replicate, get_or-replicate}
 use lib.Seq.{get_or-set_same, get_or-set_other}
-use Rattle.csdl.specs.Search.{or_else}
+use Rattle.csdl.specs.Search.{or_else, found}
 use Rattle.type_hierarchy.specs.Near.{left_at, only}
 use Rattle.type_hierarchy.proofs.Near.{left_out, left_met, left_none, left_up}
 use Rattle.type_hierarchy.specs.Nearness.{Climbed, nearness_of}
 use Rattle.type_hierarchy.proofs.Tables.{is-tab}
-use Rattle.csdl.proofs.Logic.{tab-length, tab-at, equal_or_not}
+use Rattle.csdl.proofs.Logic.{less_one, tab-length, tab-at, equal_or_not}
+use Rattle.type_hierarchy.proofs.Climb.{found_none, found_some}
 
 or_else_none : (x y : ℕ) → 0 ≡ y → x ≡ or_else x y
 or_else_none zero y e = e
@@ -50,22 +53,25 @@ module _ (next : ℕ → ℕ) (left t : ℕ) (old : List ℕ) where
   pub climbed_out : length old ≡ 128 → left ≡ 0 → Climbed next left t old old
   climbed_out s z = record { size = s; is = λ u h. or_else_none _ _ (left_out next u t left z) }
 
-  module _ (entered : List ℕ) (m : Entered t left old entered) (b : ℕ) (e : b ≡ next t) (some : left ≡ 0 → ⊥) where
-    pub climbed_none : b ≡ 0 → Climbed next left t old entered
-    climbed_none z = record {
+  module _ (entered : List ℕ) (m : Entered t left old entered) (some : left ≡ 0 → ⊥) where
+    pub climbed_end : None ≡ found (next t) → Climbed next left t old entered
+    climbed_end e = record {
       size = m.size;
       is = λ u h. equal_or_not u t
           (λ y. rw y (m.here ∙ ap (λ (k : ℕ). or_else (get_or old t 0) k) (left_met next t t left some refl)))
-          (λ y. m.other u y ∙ or_else_none _ _ (left_none next u t left b y e z));
+          (λ y. m.other u y ∙ or_else_none _ _ (left_none next u t left 0 y (sym (found_none (next t) e)) refl));
     }
 
-    pub climbed_up : (b ≡ 0 → ⊥) → (nearness : List ℕ) → Climbed next (left - 1) (b - 1) entered nearness → Climbed next left t old nearness
-    climbed_up z nearness c = record {
-      size = c.size;
-      is = λ u h. c.is u h ∙ equal_or_not u t
-          (λ y. rw (y, m.here) (or_else_kept (get_or old t 0) left (left_at (only t) next (left - 1) (b - 1)) (left_at (only t) next left t) some (left_met next t t left some refl)))
-          (λ y. rw (m.other u y) (ap (λ (k : ℕ). or_else (get_or old u 0) k) (left_up next u t left b some y e z refl)));
-    }
+    pub climbed_on : (b : ℕ) → Some b ≡ found (next t) → (nearness : List ℕ) → Climbed next (left - 1) b entered nearness → Climbed next left t old nearness
+    climbed_on b e nearness c =
+        let up : (u : ℕ) → (u ≡ t → ⊥) → left_at (only u) next (left - 1) b ≡ left_at (only u) next left t =
+        λ u y. left_up next u t left (suc b) some y (sym (found_some (next t) b e)) (λ z. omega arith) (rw (less_one b)) in
+        record {
+          size = c.size;
+          is = λ u h. c.is u h ∙ equal_or_not u t
+              (λ y. rw (y, m.here) (or_else_kept (get_or old t 0) left (left_at (only t) next (left - 1) b) (left_at (only t) next left t) some (left_met next t t left some refl)))
+              (λ y. rw (m.other u y) (ap (λ (k : ℕ). or_else (get_or old u 0) k) (up u y)));
+        }
 
 module _ (next : ℕ → ℕ) (all t : ℕ) where
   pub is_nearness : (nearness : List ℕ) → Climbed next all t (replicate 128 0) nearness → nearness ≡ nearness_of next all t

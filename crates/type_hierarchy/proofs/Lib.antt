@@ -1,6 +1,5 @@
 pub mod Climb
 pub mod Near
-pub mod Frame
 pub mod Climbing
 pub mod Past
 pub mod SetLaws

@@ -16,31 +16,25 @@ use Rattle.type_hierarchy.specs.Sets.{member, Members}
 use Rattle.type_hierarchy.specs.KeyOwners.{owns_key, KeyOwners}
 use Rattle.type_hierarchy.proofs.SetLaws.{member-none}
 
-any_step : (test : ℕ → Bool) (i n : ℕ) → any_from test i (suc n) ≡ cond (test i) true (any_from test (i + 1) n)
-unfolding any_from
-any_step test i n = refl
-
-any-zero : (test : ℕ → Bool) (i : ℕ) → any_from test i 0 ≡ false
-unfolding any_from
-any-zero test i = refl
-
 or_last : (b x y : Bool) → cond b true (x || y) ≡ cond b true x || y
 or_last true x y = refl
 or_last false x y = refl
 
-any_last : (test : ℕ → Bool) (i n : ℕ) → any_from test i (suc n) ≡ any_from test i n || test (i + n)
-any_last test i zero = any_step test i 0 ∙ rw (any-zero test (i + 1), any-zero test i) (plain (test i) ∙ ap (λ (j : ℕ). false || test j) (sym (add-zero i)))
-  where
-    plain : (b : Bool) → cond b true false ≡ false || b
-    plain true = refl
-    plain false = refl
+alone : (b : Bool) → cond b true false ≡ b
+alone true = refl
+alone false = refl
+
+-- A search of one number more.
+pub any_last : (test : ℕ → Bool) (i n : ℕ) → any_from test i (suc n) ≡ any_from test i n || test (i + n)
+unfolding any_from
+any_last test i zero = rw add-zero (alone (test i))
 any_last test i (suc n) =
-    let q : i + 1 + n ≡ i + suc n = omega arith in
-    let up : any_from test (i + 1) (suc n) ≡ any_from test (i + 1) n || test (i + suc n) = rw q at (any_last test (i + 1) n) in
-    any_step test i (suc n) ∙ rw up (or_last (test i) (any_from test (i + 1) n) (test (i + suc n)) ∙ rw (any_step test i n))
+    let e : i + 1 + n ≡ i + suc n = omega arith in
+    rw (any_last test (i + 1) n, e) (or_last (test i) (any_from test (i + 1) n) (test (i + suc n)))
 
 pub owners_none : (keys : List ℕ) → Members 64 0 (λ t. owns_key keys 0 t)
-owners_none keys = λ t h. member-none t ∙ sym (any-zero (λ k. eqb (key_owner keys k) t) 0)
+unfolding any_from
+owners_none keys = λ t h. member-none t
 
 pub owners_more : (keys : List ℕ) (k o s r : ℕ) → o ≡ key_owner keys k → Members 64 s (λ t. owns_key keys k t) → Members 64 r (λ t. member s t || eqb o t) → Members 64 r (λ t. owns_key keys (k + 1) t)
 owners_more keys k o s r e had w =

@@ -1,7 +1,7 @@
 -- Numbers past the tables: no base, no kind, no property of that owner. Assumes nothing.
 use Prim.Native.Nat.{ℕ, zero, suc, ◌+◌, ◌-◌, ◌*◌, ◌/◌, ◌≤◌, ◌<◌}
 use mathlib.Core.Path.{◌≡◌, refl, sym}
-use mathlib.Core.List.{List, []}
+use mathlib.Core.List.{List}
 use mathlib.Core.Bool.{Bool, true, false, cond}
 use native.Mathlib.Omega.{arith}
 use lib.Dec.{eqb}
@@ -10,10 +10,12 @@ use borrow.Author.Tests.{ne_eqb, le-ltb}
 use Rattle.packed.specs.Field.{field_of}
 use Rattle.packed.proofs.Laws.{field_lt, field_past}
 use Rattle.csdl.specs.Tables.{type_base}
-use Rattle.csdl.specs.Search.{first_from}
 use Rattle.csdl.specs.Climb.{climb}
 use Rattle.csdl.proofs.Climbing.{climb_test}
+use Rattle.csdl.proofs.Logic.{none_first}
 use Rattle.csdl.specs.Model.{model_of}
+use Rattle.model_image.specs.Read.{model_read}
+use Rattle.model_image.specs.declared.model.Model.{Model}
 use Rattle.csdl.specs.Find.{structured, ancestor_or_self, ancestor, find, own, declares}
 use Rattle.type_hierarchy.proofs.Climb.{climb-none, nearest-none}
 
@@ -31,26 +33,25 @@ climb-high next s (suc left) a t h =
     either true = refl
     either false = refl
 
-first-none : (test : ℕ → Bool) → ((i : ℕ) → test i ≡ false) → (i n : ℕ) → first_from test i n ≡ 0
-unfolding first_from
-first-none test never i zero = refl
-first-none test never i (suc n) = rw (never i, first-none test never (i + 1) n)
+module _ (m : Model) where
+  few : length m.types.now ≤ 384
+  few = m.few_types
 
-module _ (ty : List ℕ) (l : length ty ≤ 384) where
-  pub structured_past : (x : ℕ) → 64 ≤ x → structured (model_of [] ty [] [] [] [] [] [] []) x ≡ false
-  unfolding model_of structured
-  structured_past x h = rw (le-ltb x (length ty / 6) (omega arith))
+  pub structured_past : (x : ℕ) → 64 ≤ x → structured (model_read m) x ≡ false
+  unfolding model_read model_of structured
+  structured_past x h = rw (le-ltb x (length m.types.now / 6) (omega (arith, few)))
 
-  pub ancestor-or_self_past : (a t : ℕ) → (t ≡ a → ⊥) → 64 ≤ t → ancestor_or_self (model_of [] ty [] [] [] [] [] [] []) a t ≡ false
-  unfolding model_of ancestor_or_self ancestor
-  ancestor-or_self_past a t n h = rw (ne_eqb t a n) (sym (climb-none (λ u. type_base ty u) t 0 (sym (base_past ty t (omega arith))) a (length ty / 6) refl))
+  pub ancestor-or_self_past : (a t : ℕ) → (t ≡ a → ⊥) → 64 ≤ t → ancestor_or_self (model_read m) a t ≡ false
+  unfolding model_read model_of ancestor_or_self ancestor
+  ancestor-or_self_past a t n h = rw (ne_eqb t a n) (sym (climb-none (λ u. type_base m.types.now u) t 0 (sym (base_past m.types.now t (omega (arith, few)))) a (length m.types.now / 6) refl))
 
-  pub ancestor-or_self_high : (a t : ℕ) → (t ≡ a → ⊥) → 128 ≤ a → ancestor_or_self (model_of [] ty [] [] [] [] [] [] []) a t ≡ false
-  unfolding model_of ancestor_or_self ancestor
-  ancestor-or_self_high a t n h = rw (ne_eqb t a n) (climb-high (λ u. type_base ty u) (λ u. field_lt ty (48 * u + 10) 7) (length ty / 6) a t h)
+  pub ancestor-or_self_high : (a t : ℕ) → (t ≡ a → ⊥) → 128 ≤ a → ancestor_or_self (model_read m) a t ≡ false
+  unfolding model_read model_of ancestor_or_self ancestor
+  ancestor-or_self_high a t n h = rw (ne_eqb t a n) (climb-high (λ u. type_base m.types.now u) (λ u. field_lt m.types.now (48 * u + 10) 7) (length m.types.now / 6) a t h)
 
-  pub find_past : (pr nm x : List ℕ) (t : ℕ) → 64 ≤ t → find (model_of [] ty pr [] [] [] [] [] nm) x t ≡ 0
-  unfolding model_of find own declares
-  find_past pr nm x t h =
-      sym (nearest-none _ (λ u. type_base ty u) t 0 (sym (first-none _ (λ p. rw (ne_eqb (field_of pr (56 * p) 6) t (λ e. omega (arith, field_lt pr (56 * p) 6)))) 0 (length pr / 7)))
-      (length ty / 6) 0 refl (sym (base_past ty t (omega arith))) refl)
+  pub find_past : (nm : List ℕ) (t : ℕ) → 64 ≤ t → find (model_read m) nm t ≡ 0
+  unfolding model_read model_of find own declares
+  find_past nm t h =
+      sym (nearest-none _ (λ u. type_base m.types.now u) t 0
+      (sym (none_first _ 0 (length m.properties.now / 7) (λ p i l. rw (ne_eqb (field_of m.properties.now (56 * p) 6) t (λ e. omega (arith, field_lt m.properties.now (56 * p) 6))))))
+      (length m.types.now / 6) 0 refl (sym (base_past m.types.now t (omega (arith, few)))) refl)

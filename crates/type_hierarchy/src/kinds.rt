@@ -1,23 +1,22 @@
 // Kinds of a type reference: a type number, or 64 + primitive code.
-ghost use Rattle.std.specs.Prelude.{◌≡◌, []};
-ghost use Rattle.csdl.specs.Model.{model_of};
+ghost use Rattle.model_image.specs.Read.{model_read};
+ghost use Rattle.std.specs.Prelude.{◌≡◌};
 ghost use Rattle.csdl.specs.Find as find;
-ghost use Rattle.model_image.specs.Limits.{FewTypes};
+ghost use Rattle.csdl.specs.Kinds.{kind_number};
 
-use model_image::types::{type_count, type_kind};
+use csdl::TypeKind;
+use model_image::model::Model;
 
 // Whether x is a type of the kind.
-pub fn of_kind(types: &[u8], kind: u16, x: u16) -> bool
-    requires { FewTypes types.now }
-    ensures { result ≡ find.of_kind (model_of [] types.now [] [] [] [] [] [] []) kind x }
+pub fn of_kind(model: &Model, kind: TypeKind, x: u16) -> bool
+    ensures { result ≡ find.of_kind (model_read model.now) (kind_number kind) x }
 {
-    (x < type_count(types)) & (type_kind(types, x) == kind)
+    (x < model.type_count()) & (model.type_kind(x) == kind as u16)
 }
 
 // Whether x is an entity or complex type.
-pub fn structured(types: &[u8], x: u16) -> bool
-    requires { FewTypes types.now }
-    ensures { result ≡ find.structured (model_of [] types.now [] [] [] [] [] [] []) x }
+pub fn structured(model: &Model, x: u16) -> bool
+    ensures { result ≡ find.structured (model_read model.now) x }
 {
-    (x < type_count(types)) & (type_kind(types, x) <= 1)
+    (x < model.type_count()) & (model.type_kind(x) <= TypeKind::Complex as u16)
 }

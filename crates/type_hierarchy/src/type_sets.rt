@@ -4,6 +4,7 @@ ghost use Rattle.csdl.specs.Search.{any_from};
 ghost use Rattle.type_hierarchy.specs.Sets.{member};
 
 // Whether t is in the set.
+#[tactic(auto, unfolding(crate::specs::Sets::member))]
 pub fn in_set(set: u64, t: u16) -> bool
     requires { t < 64 }
     ensures { result ≡ member set t }
@@ -22,6 +23,7 @@ pub fn with_one(set: u64, x: u16) -> u64
 }
 
 // Whether two sets have a type in common.
+#[tactic(auto, using(crate::proofs::SetLaws::meet_any))]
 pub fn meet(a: u64, b: u64) -> bool
     ensures { result ≡ any_from (λ t. member a t && member b t) 0 64 }
 {

@@ -1,13 +1,17 @@
 -- Laws of sets of properties. Assumes nothing.
-use Prim.Native.Nat.{ℕ, ◌+◌, ◌*◌, ◌/◌, ◌%◌, ◌^◌, ◌≤◌, ◌<◌}
+use Prim.Native.Nat.{ℕ, ◌+◌, ◌-◌, ◌*◌, ◌/◌, ◌%◌, ◌^◌, ◌≤◌, ◌<◌}
 use mathlib.Core.Path.{◌≡◌, refl, sym, ap, ◌∙◌}
-use mathlib.Core.Bool.{Bool, true, false, cond, ◌&&◌, ◌||◌, and-false, or-true, or-false, false≢true}
-use mathlib.Core.List.{List}
+use mathlib.Core.Bool.{Bool, true, false, not, cond, ◌&&◌, ◌||◌, and-false, or-true, or-false, false≢true}
+use mathlib.Core.List.{List, ◌++◌}
 use native.Mathlib.Omega.{arith}
 use lib.Dec.{eqb, ltb}
-use lib.ListN.{length, get_or, set, length-set, replicate, get_or-replicate}
-use lib.Seq.{get_or-set_same, get_or-set_other, ext_get_or}
+use lib.ListN.{length, get_or, set, take, drop, replicate, get_or-replicate, get_or-append}
+use lib.Seq.{get_or-set_same, get_or-set_other, get_or-drop, get_or-append_right, ext_get_or}
+use borrow.Rule.Slice.PartMut.{mid_of, post_of, put_mid, same_len_mid, take_put, drop_put}
+use Rattle.std.proofs.lemmas.List.{get_or-take, length-take-le, length-drop}
 use borrow.Author.Tests.{eq-eqb, ne_eqb, lt-ltb, le-ltb}
+use Rattle.packed.specs.Bytes.{same}
+use Rattle.packed.proofs.Laws.{same_sound, same_complete}
 use Rattle.csdl.specs.Search.{any_from, tab}
 use Rattle.csdl.proofs.Logic.{any_found, any_none, any_of, none_any, tab-length, tab-at, equal_or_not, below_or_not}
 use Rattle.type_hierarchy.specs.Sets.{member, Members}
@@ -108,6 +112,26 @@ module _ (a b : List ℕ) (from : ℕ) where
   unfolding wide unlike_wide
   unlike_none f = sym (none_any test 0 512 (λ p i h. let z : 0 + p / 64 ≡ p / 64 = omega arith in only_none (wide a 0 p) (wide b from p) (rw (z, f (p / 64) (omega arith)))))
 
+  -- What the comparison of the words tells.
+  module _ (part : List ℕ) (sizes : length a ≡ 8) (size : length part ≡ 8) (same_words : (j : ℕ) → j < 8 → get_or part j 0 ≡ get_or b (from + j) 0)
+      (fits_a : (j : ℕ) → get_or a j 0 < 2 ^ 64) (fits_b : (j : ℕ) → get_or b j 0 < 2 ^ 64) where
+    pub unlike_parts : not (same a part) ≡ unlike_wide a b from
+    unlike_parts = go (same a part) refl
+      where
+        agree : unlike_wide a b from ≡ false → (j : ℕ) → j < 8 → get_or a j 0 ≡ get_or b (from + j) 0
+        agree e j h = equal_or_not (get_or a j 0) (get_or b (from + j) 0) (λ z. z) (λ n. absurd (false≢true (sym e ∙ sym (unlike_here j h (fits_a j) (fits_b (from + j)) n))))
+
+        all_agree : same a part ≡ false → unlike_wide a b from ≡ false → ⊥
+        all_agree q e = false≢true (sym q ∙ same_complete _ _ (ext_get_or 0 a part (sizes ∙ sym size) (λ j l. let h : j < 8 = omega (arith, l, sizes) in agree e j h ∙ sym (same_words j h))))
+
+        differ : same a part ≡ false → (r : Bool) → unlike_wide a b from ≡ r → true ≡ unlike_wide a b from
+        differ q true e = sym e
+        differ q false e = absurd (all_agree q e)
+
+        go : (r : Bool) → same a part ≡ r → not (same a part) ≡ unlike_wide a b from
+        go true q = rw q (unlike_none (λ j h. ap (λ (l : List ℕ). get_or l j 0) (same_sound a part q) ∙ same_words j h))
+        go false q = rw q (differ q (unlike_wide a b from) refl)
+
   pub unlike_sets : (r : Bool) → r ≡ unlike_wide a b from → Unlike a b from r
   unfolding unlike_wide
   unlike_sets r e = record {
@@ -115,39 +139,50 @@ module _ (a b : List ℕ) (from : ℕ) where
     none = λ t p h. only_same _ _ (any_none test 0 512 (sym e ∙ t) p (omega arith) (omega arith));
   }
 
--- ---- a row written word by word
+-- ---- a row written
 module _ (rows row : List ℕ) (t : ℕ) where
-  pub record Writing (next : List ℕ) (k : ℕ) : Type 0 where
-    pub size : length next ≡ 512
-    pub most : k ≤ 8
-    pub done : (j : ℕ) → j < k → get_or next (8 * t + j) 0 ≡ get_or row j 0
-    pub kept : (i : ℕ) → (i / 8 ≡ t → ⊥) → get_or next i 0 ≡ get_or rows i 0
-
-  pub writing_start : length rows ≡ 512 → Writing rows 0
-  writing_start s = record { size = s; most = omega arith; done = λ j h. absurd (omega arith); kept = λ i h. refl }
-
-  pub writing_next : (next : List ℕ) (k : ℕ) → t < 64 → k < 8 → Writing next k → Writing (set next (8 * t + k) (get_or row k 0)) (k + 1)
-  writing_next next k s h w = record {
-    size = length-set next (8 * t + k) (get_or row k 0) ∙ w.size;
-    most = omega arith;
-    done = λ j l. equal_or_not j k
-        (λ z. rw (z, get_or-set_same next (8 * t + k) (get_or row k 0) 0 (rw w.size (omega arith))))
-        (λ z. get_or-set_other next (8 * t + k) (8 * t + j) (get_or row k 0) 0 (λ y. z (omega (arith, y))) ∙ w.done j (omega (arith, l, z)));
-    kept = λ i n. get_or-set_other next (8 * t + k) i (get_or row k 0) 0 (λ y. n (omega (arith, y, h))) ∙ w.kept i n;
-  }
-
   abbrev entry : ℕ → ℕ
   entry i = cond (eqb (i / 8) t) (get_or row (i % 8) 0) (get_or rows i 0)
 
-  pub writing_end : (next : List ℕ) (k : ℕ) → 8 ≤ k → Writing next k → next ≡ with_row rows row t
+  pub row_written : (next : List ℕ) → length next ≡ 512 → ((j : ℕ) → j < 8 → get_or next (8 * t + j) 0 ≡ get_or row j 0) → ((i : ℕ) → (i / 8 ≡ t → ⊥) → get_or next i 0 ≡ get_or rows i 0) → next ≡ with_row rows row t
   unfolding with_row
-  writing_end next k h w =
-      ext_get_or 0 next (tab entry 0 512) (w.size ∙ sym (tab-length entry 0 512)) (λ i l. at i ∙ sym (tab-at entry 0 512 i (omega (arith, l, w.size))))
+  row_written next size done kept =
+      ext_get_or 0 next (tab entry 0 512) (size ∙ sym (tab-length entry 0 512)) (λ i l. at i ∙ sym (tab-at entry 0 512 i (omega (arith, l, size))))
     where
       at : (i : ℕ) → get_or next i 0 ≡ entry i
       at i = equal_or_not (i / 8) t
-          (λ z. let q : i ≡ 8 * t + i % 8 = omega (arith, z) in ap (λ (x : ℕ). get_or next x 0) q ∙ w.done (i % 8) (omega (arith, h)) ∙ rw (eq-eqb (i / 8) t z))
-          (λ z. w.kept i z ∙ rw (ne_eqb (i / 8) t z))
+          (λ z. let q : i ≡ 8 * t + i % 8 = omega (arith, z) in ap (λ (x : ℕ). get_or next x 0) q ∙ done (i % 8) (omega arith) ∙ rw (eq-eqb (i / 8) t z))
+          (λ z. kept i z ∙ rw (ne_eqb (i / 8) t z))
+
+  -- The words of the row put back in their place.
+  pub row_put : (k : ℕ) → length rows ≡ 512 → length row ≡ 8 → t < 64 → k ≡ 8 → put_mid (8 * t) k rows row ≡ with_row rows row t
+  row_put k size eight small e =
+      row_written next (same_len_mid (8 * t) k rows row (eight ∙ sym mid) ∙ size) done
+      (λ i n. below_or_not i (8 * t)
+      (λ l. sym (get_or-take (8 * t) next i 0 l) ∙ ap (λ (x : List ℕ). get_or x i 0) (take_put (8 * t) k rows row start) ∙ get_or-take (8 * t) rows i 0 l)
+      (λ l. let h : 8 * t + k + (i - (8 * t + k)) ≡ i = omega (arith, l, n, e) in
+      ap (λ (x : ℕ). get_or next x 0) (sym h) ∙ sym (get_or-drop (8 * t + k) next (i - (8 * t + k)) 0) ∙ ap (λ (x : List ℕ). get_or x (i - (8 * t + k)) 0) after ∙ get_or-drop (8 * t + k) rows (i - (8 * t + k)) 0 ∙ ap (λ (x : ℕ). get_or rows x 0) h))
+    where
+      next : List ℕ
+      next = put_mid (8 * t) k rows row
+
+      start : 8 * t ≤ length rows
+      start = omega (arith, size, small)
+
+      mid : length (mid_of (8 * t) k rows) ≡ 8
+      mid = length-take-le k (drop (8 * t) rows) (rw (length-drop (8 * t) rows) (omega (arith, size, small, e))) ∙ e
+
+      after : drop (8 * t + k) next ≡ drop (8 * t + k) rows
+      after =
+          let z : 8 * t + k - 8 * t ≡ k = omega arith in
+          rw z at (drop_put (8 * t) (8 * t + k) rows row (omega arith) (omega (arith, size, small, e)) (rw z (eight ∙ sym e)))
+
+      done : (j : ℕ) → j < 8 → get_or next (8 * t + j) 0 ≡ get_or row j 0
+      done j h =
+          let d = length-take-le (8 * t) rows start in
+          let z : 8 * t + j - length (take (8 * t) rows) ≡ j = omega (arith, d) in
+          get_or-append_right (take (8 * t) rows) (row ++ post_of (8 * t) k rows) (8 * t + j) 0 (omega (arith, d)) ∙ ap (λ (x : ℕ). get_or (row ++ post_of (8 * t) k rows) x 0) z
+          ∙ get_or-append row (post_of (8 * t) k rows) 0 j (omega (arith, eight, h))
 
   -- Row t is the set, and the others are as they were.
   pub record Replaced (next : List ℕ) : Type 0 where

@@ -1,54 +1,47 @@
 // The names of a type: of each name the nearest declaration. A name is known by the entry of its properties in the index.
-ghost use Rattle.std.specs.Prelude.{◌≡◌, ◌&&◌, [], ℕ, ◌+◌, ◌<◌, ltb, length, get_or};
-ghost use Rattle.csdl.specs.Tables.{property_count};
-ghost use Rattle.csdl.specs.Model.{model_of};
+ghost use Rattle.model_image.specs.Read.{model_read};
+ghost use Rattle.std.specs.Prelude.{◌≡◌, ◌&&◌, ℕ, ◌+◌, ◌<◌, ltb, length, get_or};
 ghost use Rattle.csdl.specs.Find.{is_name_of};
 ghost use Rattle.name_classes.specs.Classes.{name_of, Ranked};
 ghost use Rattle.type_names.specs.Wide.{MembersWide};
 ghost use Rattle.type_names.specs.Nearest as specs;
-ghost use Rattle.model_image.specs.Limits.{FewProperties, FewTypes};
 
 use crate::wide::with_wide;
-use model_image::properties::{property_count, property_owner};
+use model_image::model::Model;
 use type_hierarchy::nearness::nearness_of;
 
 // What each name means at t, at the place of the name's entry.
-fn meaning_of(types: &[u8], properties: &[u8], index: &[u16], t: u16) -> [u16; 513]
-    requires { FewTypes types.now × FewProperties properties.now × (t < 128) × (length index.now ≡ 1793) × ((p : ℕ) → p < property_count properties.now → get_or index.now (512 + p) 0 < 513) }
-    ensures { specs.Meaning types.now properties.now index.now t result }
+fn meaning_of(model: &Model, index: &[u16], t: u16) -> [Option<u16>; 513]
+    requires { (t < 128) × (length index.now ≡ 1793) × ((p : ℕ) → p < (model_read model.now).properties → get_or index.now (512 + p) 0 < 513) }
+    ensures { specs.Meaning model.now.types.now model.now.properties.now index.now t result }
 {
-    let nearness = nearness_of(types, t);
-    let n = property_count(properties);
-    let mut found = [0u16; 513];
+    let nearness = nearness_of(model, t);
+    let mut nearest: [Option<u16>; 513] = [None; 513];
     let mut near = [0u16; 513];
-    let mut p: u16 = 0;
-    while p < n {
+    for p in 0..model.property_count() {
         let h = index[512 + (p as usize)] as usize;
-        let left = nearness[property_owner(properties, p) as usize];
+        let left = nearness[model.property_owner(p) as usize];
         if near[h] < left {
             near[h] = left;
-            found[h] = p + 1;
+            nearest[h] = Some(p);
         }
-        p += 1;
     }
-    found
+    nearest
 }
 
 // The names of t.
-pub fn names_of(types: &[u8], properties: &[u8], names: &[u8], index: &[u16], t: u16) -> [u64; 8]
-    requires { FewTypes types.now × FewProperties properties.now × (t < 128) × Ranked (λ p. name_of properties.now names.now p) (property_count properties.now) (get_or index.now 1536 0) index.now }
-    ensures { (length result ≡ 8) × MembersWide result 0 (λ p. ltb p (property_count properties.now) && is_name_of (model_of [] types.now properties.now [] [] [] [] [] names.now) t p) }
+pub fn names_of(model: &Model, index: &[u16], t: u16) -> [u64; 8]
+    requires { (t < 128) × Ranked (λ p. name_of model.now.properties.now model.now.names.now p) ((model_read model.now).properties) (get_or index.now 1536 0) index.now }
+    ensures { (length result ≡ 8) × MembersWide result 0 (λ p. ltb p ((model_read model.now).properties) && is_name_of (model_read model.now) t p) }
 {
-    let found = meaning_of(types, properties, index, t);
-    let n = property_count(properties);
+    let nearest = meaning_of(model, index, t);
     let mut set = [0u64; 8];
-    let mut p: u16 = 0;
-    while p < n {
-        if found[index[512 + (p as usize)] as usize] == p + 1 {
+    for p in 0..model.property_count() {
+        if nearest[index[512 + (p as usize)] as usize] == Some(p) {
+            // By a name of its own: the check takes no call's array straight into a variable that was lent.
             let next = with_wide(set, p);
             set = next;
         }
-        p += 1;
     }
     set
 }

@@ -13,14 +13,13 @@ pub fn in_wide(words: &[u64], from: usize, p: u16) -> bool
 }
 
 // The set, and p in it.
-pub fn with_wide(words: [u64; 8], p: u16) -> [u64; 8]
+pub fn with_wide(mut words: [u64; 8], p: u16) -> [u64; 8]
     requires { (length words ≡ 8) × (p < 512) }
     ensures { (length result ≡ 8) × MembersWide result 0 (λ q. wide words 0 q || eqb p q) }
 {
     let k = (p / 64) as usize;
-    let mut next = words;
-    next[k] = with_one(words[k], p % 64);
-    next
+    words[k] = with_one(words[k], p % 64);
+    words
 }
 
 // Whether two sets differ.
@@ -28,28 +27,15 @@ pub fn unlike(a: &[u64], b: &[u64], from: usize) -> bool
     requires { (length a.now ≡ 8) × (from + 8 ≤ length b.now) }
     ensures { result ≡ unlike_wide a.now b.now from }
 {
-    let mut k: usize = 0;
-    while k < 8 {
-        if a[k] != b[from + k] {
-            return true;
-        }
-        k += 1;
-    }
-    false
+    a[..] != b[from..from + 8]
 }
 
 // The rows, with a set as row t.
-pub fn with_row(rows: [u64; 512], row: [u64; 8], t: u16) -> [u64; 512]
+pub fn with_row(mut rows: [u64; 512], row: [u64; 8], t: u16) -> [u64; 512]
     requires { (length rows ≡ 512) × (length row ≡ 8) × (t < 64) }
     ensures { result ≡ with_row rows row t }
 {
     let from = 8 * (t as usize);
-    let mut next = rows;
-    let mut k: usize = 0;
-    while k < 8 {
-        let word = row[k];
-        next[from + k] = word;
-        k += 1;
-    }
-    next
+    rows[from..from + 8].copy_from_slice(&row);
+    rows
 }

@@ -1,34 +1,30 @@
 -- The answer of a walk and what it leaves in the buffer, case by case, by the definitions and by demand 3.
 use Prim.Native.Nat.{ℕ, ◌+◌, ◌*◌, ◌/◌, ◌≤◌, ◌<◌, zero-le}
-use mathlib.Core.Path.{◌≡◌, refl, sym, ap, subst, ◌∙◌}
+use mathlib.Core.Path.{◌≡◌, refl, sym, ap, ap₂, subst, ◌∙◌}
 use mathlib.Core.List.{List, [], ◌∷◌, ◌++◌}
 use mathlib.Core.Bool.{Bool, true, false, false≢true, not}
-use mathlib.Core.Logic.{inl, inr, ⊎_elim}
 use native.Mathlib.Nat.{zero-add}
 use native.Mathlib.Omega.{arith}
 use lib.ListN.{length, drop}
 use lib.Seq.{sets, sets-eq}
 use lib.Dec.{ltb}
 use borrow.Author.Tests.{ltb-true, ltb-false, not-false}
+use Rattle.std.proofs.Common.{Option, Some, None}
 use Rattle.csdl.specs.Search.{flat}
-use Rattle.csdl.specs.Model.{Model}
+use Rattle.csdl.specs.Model.{Model, record_at}
 use Rattle.csdl.specs.Find.{ancestor_or_self}
 use Rattle.csdl.specs.Image.{model_in}
 use Rattle.csdl.specs.Path.{path_of, start_of}
-use Rattle.csdl.specs.declared.PathKind.{PathKind}
-use Rattle.csdl.specs.declared.Chosen.{Chosen}
+use Rattle.csdl.specs.declared.Holder.{Holder}
+use Rattle.csdl.specs.declared.Run.{Run}
 use Rattle.csdl.specs.Instance.{Instance, instance_in, image20, item_bytes}
-use Rattle.csdl.specs.Conforms.{instance_answer}
+use Rattle.csdl.specs.Conforms.{instance_then, instance_answer}
 use Rattle.csdl.specs.Verdict.{Answer, Stage, verdict}
 use Rattle.csdl.specs.Verdict.Answer.{accepted, refused}
 use Rattle.csdl.specs.Verdict.Stage.{whole}
-use Rattle.csdl.specs.Walk.{bytes_of_item, chosen_start, walk27, walk28, walk29, walk_path, walk_results, walk_opened, walk_answer, result_bytes, walk_buffer}
-use Rattle.csdl.specs.declared.Chosen.TheVariants.{NoPath, PathOf}
-use Rattle.csdl.specs.Accepted.{InstancePasses}
+use Rattle.csdl.specs.Walk.{bytes_of_item, path_chosen, chosen_start, walk27, walk28, walk29, walk_path, walk_results, walk_opened, walk_answer, result_bytes, walk_buffer}
 use Rattle.csdl.proofs.Logic.{or_no}
-use Rattle.csdl.proofs.Verdicts.{instance_accepts, instance_refuses, instance_then_refuses}
-use Rattle.model_image.specs.Sized.{Sized}
-use Rattle.model_image.proofs.Parts.{layout}
+use Rattle.csdl.proofs.Verdicts.{instance_accepts}
 use Rattle.instance_image.proofs.Sizes.{sized}
 use Rattle.soundness.proofs.Counts.{bytes-length}
 use Rattle.soundness.proofs.Demands.{results_are, opened_are, not-refused, opened-at-most, results-at-most, results_fit_buffer, premises_of_walk}
@@ -37,14 +33,19 @@ use Rattle.walk_path.specs.Refusal.{refusal}
 use Rattle.walk.specs.Along.{bytes_along, opened_along}
 use Rattle.walk.specs.Opened.{opened_of}
 
--- Where rule 27 is kept there is a path: its kind and its holder.
-module _ (c : Chosen) (a : walk27 c ≡ false) where
-  there-is : (kind : PathKind) × (holder : ℕ) × (c ≡ PathOf kind holder)
-  there-is = go c a
-    where
-      go : (x : Chosen) → walk27 x ≡ false → (kind : PathKind) × (holder : ℕ) × (x ≡ PathOf kind holder)
-      go NoPath e = absurd (false≢true (sym e))
-      go (PathOf w r) e = (w, r, refl)
+-- Where rule 27 is kept there is a path: the record that holds it.
+there-is : (c : Option Holder) → walk27 c ≡ false → (h : Holder) × (c ≡ Some h)
+there-is None e = absurd (false≢true (sym e))
+there-is (Some h) e = (h, refl)
+
+-- A refusal by a rule.
+abbrev refuses : Option ℕ → Bool
+refuses None = false
+refuses (Some rule) = true
+
+abbrev rule_of : Option ℕ → ℕ
+rule_of None = 0
+rule_of (Some rule) = rule
 
 module _ (model image : List ℕ) (place n v : ℕ) (buffer : List ℕ) where
   -- What a walk owes where it answers so and leaves the buffer so.
@@ -70,65 +71,59 @@ module _ (model image : List ℕ) (place n v : ℕ) (buffer : List ℕ) where
   refusing rule at e = (sym e, rw e)
 
   -- A refusal of the check of the instance is one of the walk.
-  pub refused-before : (rule at : ℕ) → instance_answer model image ≡ refused rule at → Owed (refused rule at) buffer
+  pub refused-before : (rule at : ℕ) → ((o : Answer) → refused rule at ≡ instance_then model image o) → Owed (refused rule at) buffer
   unfolding walk_answer
-  refused-before rule at e =
-      refusing rule at
-      ((instance_then_refuses model image (verdict 0 stages counts) rule at).1
-      (⊎_elim (λ low. inl low) (λ h. inr (h.0, inl h.1)) ((instance_refuses model image rule at).0 e)))
+  refused-before rule at e = refusing rule at (sym (e (verdict 0 stages counts)))
 
-  module _ (conforms : instance_answer model image ≡ accepted []) where
-    passes : InstancePasses model image
-    passes = (instance_accepts model image).0 conforms
+  module _ (passing : (o : Answer) → o ≡ instance_then model image o) where
+    conforms : instance_answer model image ≡ accepted []
+    unfolding instance_answer
+    conforms = sym (passing (accepted []))
 
-    pub model_sized : Sized model
-    model_sized = layout model passes.model_passes.kept1
-
-    pub keeps_20 : image20 image ≡ false
-    keeps_20 = passes.kept20
+    keeps_20 : image20 image ≡ false
+    keeps_20 = ((instance_accepts model image).0 conforms).kept20
 
     refused_by : (rule : ℕ) → verdict 0 stages counts ≡ refused rule 0 → Owed (refused rule 0) buffer
     unfolding walk_answer
-    refused_by rule e =
-        refusing rule 0 ((instance_then_refuses model image (verdict 0 stages counts) rule 0).1 (inr (passes.model_passes, inr (passes, e))))
+    refused_by rule e = refusing rule 0 (sym (passing (verdict 0 stages counts)) ∙ e)
 
     -- Rules 27, 28 and 29, in that order.
-    module _ (c : Chosen) (choice : c ≡ walk_path model place n) (rule : ℕ)
-        (first_of : rule ≡ refusal (walk27 c) (walk28 m i (chosen_start m c) v) (walk29 i buffer)) where
+    module _ (c : Option Holder) (choice : c ≡ walk_path model place n) (r : Option ℕ)
+        (first_of : r ≡ refusal (walk27 c) (walk28 m i (chosen_start m c) v) (walk29 i buffer)) where
       broken : walk27 (walk_path model place n) ≡ walk27 c × ((walk28 m i (chosen_start m (walk_path model place n)) v) ≡ (walk28 m i (chosen_start m c) v))
       broken = rw choice (refl, refl)
 
-      pub refused_27_to_29 : (rule ≡ 0 → ⊥) → Owed (refused rule 0) buffer
+      refused_27_to_29 : (rule : ℕ) → r ≡ Some rule → Owed (refused rule 0) buffer
       unfolding verdict
-      refused_27_to_29 some = go (walk27 c) (walk28 m i (chosen_start m c) v) (walk29 i buffer) refl refl refl
+      refused_27_to_29 rule some = go (walk27 c) (walk28 m i (chosen_start m c) v) (walk29 i buffer) refl refl refl (sym first_of ∙ some)
         where
-          go : (x y z : Bool) → walk27 c ≡ x → walk28 m i (chosen_start m c) v ≡ y → walk29 i buffer ≡ z → Owed (refused rule 0) buffer
-          go true y z p q r = rw (first_of, p) (refused_by 27 (rw (broken.0, p)))
-          go false true z p q r = rw (first_of, p, q) (refused_by 28 (rw (broken.0, broken.1, p, q)))
-          go false false true p q r = rw (first_of, p, q, r) (refused_by 29 (rw (broken.0, broken.1, p, q, r)))
-          go false false false p q r = absurd (some (first_of ∙ rw (p, q, r)))
+          is : (k : ℕ) → Some k ≡ Some rule → Owed (refused k 0) buffer → Owed (refused rule 0) buffer
+          is k e o = subst (λ (x : ℕ). Owed (refused x 0) buffer) (ap rule_of e) o
 
-      module _ (none : rule ≡ 0) where
+          go : (x y z : Bool) → walk27 c ≡ x → walk28 m i (chosen_start m c) v ≡ y → walk29 i buffer ≡ z → refusal x y z ≡ Some rule → Owed (refused rule 0) buffer
+          go true y z p q s e = is 27 e (refused_by 27 (rw (broken.0, p)))
+          go false true z p q s e = is 28 e (refused_by 28 (rw (broken.0, broken.1, p, q)))
+          go false false true p q s e = is 29 e (refused_by 29 (rw (broken.0, broken.1, p, q, s)))
+          go false false false p q s e = absurd (false≢true (ap refuses e))
+
+      module _ (none : r ≡ None) where
         kept : (walk27 c ≡ false) × (walk28 m i (chosen_start m c) v ≡ false) × (walk29 i buffer ≡ false)
         kept = go (walk27 c) (walk28 m i (chosen_start m c) v) (walk29 i buffer) (sym first_of ∙ none)
           where
-            go : (x y z : Bool) → refusal x y z ≡ 0 → (x ≡ false) × (y ≡ false) × (z ≡ false)
-            go true y z e = absurd (omega (arith, e))
-            go false true z e = absurd (omega (arith, e))
-            go false false true e = absurd (omega (arith, e))
+            go : (x y z : Bool) → refusal x y z ≡ None → (x ≡ false) × (y ≡ false) × (z ≡ false)
+            go true y z e = absurd (false≢true (sym (ap refuses e)))
+            go false true z e = absurd (false≢true (sym (ap refuses e)))
+            go false false true e = absurd (false≢true (sym (ap refuses e)))
             go false false false e = (refl, refl, refl)
 
-        abbrev a : walk27 c ≡ false
-        a = kept.0
+        abbrev held : (h : Holder) × (c ≡ Some h)
+        held = there-is c kept.0
 
-        abbrev kind : PathKind
-        kind = (there-is c a).0
+        abbrev h : Holder
+        h = held.0
 
-        abbrev holder : ℕ
-        holder = (there-is c a).1
-
-        path-is : walk_path model place n ≡ PathOf kind holder
-        path-is = sym choice ∙ (there-is c a).2
+        path-is : walk_path model place n ≡ Some h
+        path-is = sym choice ∙ held.1
 
         there : v < i.nodes
         unfolding walk28
@@ -136,85 +131,110 @@ module _ (model image : List ℕ) (place n v : ℕ) (buffer : List ℕ) where
             ltb-true v i.nodes
             (not-false (ltb v i.nodes) (or_no (not (ltb v i.nodes)) (not (ancestor_or_self m (chosen_start m c) (i.node_type v))) kept.1).0)
 
-        fitting : ancestor_or_self m (start_of m kind holder) (i.node_type v) ≡ true
+        fitting : ancestor_or_self m (start_of m h.kind h.number) (i.node_type v) ≡ true
         unfolding walk28
         fitting =
-            subst (λ (x : Chosen). ancestor_or_self m (chosen_start m x) (i.node_type v) ≡ true) (there-is c a).2
+            subst (λ (x : Option Holder). ancestor_or_self m (chosen_start m x) (i.node_type v) ≡ true) held.1
             (not-false (ancestor_or_self m (chosen_start m c) (i.node_type v))
             (or_no (not (ltb v i.nodes)) (not (ancestor_or_self m (chosen_start m c) (i.node_type v))) kept.1).1)
 
-        pub start_small : v < 256
+        start_small : v < 256
         start_small = let z = sized image keeps_20 in omega (arith, there, z.nodes-count, z.nodes-most)
 
         -- Else the walk: its results fit, its counts are small, and it answers them.
-        module _ (first count : ℕ) (f : first ≡ (chosen_path m c).first) (g : count ≡ (chosen_path m c).count) where
-          first-is : first ≡ (path_of m kind holder).first
-          first-is = f ∙ ap (λ (x : Chosen). (chosen_path m x).first) (there-is c a).2
-
-          count-is : count ≡ (path_of m kind holder).count
-          count-is = g ∙ ap (λ (x : Chosen). (chosen_path m x).count) (there-is c a).2
+        module _ (run : Run) (f : run.first ≡ (chosen_path m c).first) (g : run.count ≡ (chosen_path m c).count) where
+          run-is : run ≡ path_of m h.kind h.number
+          run-is =
+              ap₂ (λ (a b : ℕ). record { first = a; count = b }) f g ∙ ap (λ (x : Option Holder). chosen_path m x) held.1
 
           room : item_bytes * (1 + i.slots + i.items) ≤ length buffer
           unfolding walk29
           room = ltb-false (length buffer) (item_bytes * (1 + i.slots + i.items)) kept.2
 
-          bytes_are : bytes_along model image first count v ≡ result_bytes model image place n v
+          bytes_are : bytes_along m i run v ≡ result_bytes model image place n v
           unfolding bytes_along result_bytes
-          bytes_are = rw (first-is, count-is) (ap (flat (λ x. bytes_of_item x)) (sym (results_are model image conforms place n kind holder path-is v there fitting)))
+          bytes_are = rw run-is (ap (flat (λ x. bytes_of_item x)) (sym (results_are model image conforms place n h.kind h.number path-is v there fitting)))
 
-          slots_are : opened_along model image first count v ≡ walk_opened model image place n v
+          slots_are : opened_along m i run v ≡ walk_opened model image place n v
           unfolding opened_along
-          slots_are = rw (first-is, count-is) (sym (opened_are model image conforms place n kind holder path-is v there fitting))
+          slots_are = rw run-is (sym (opened_are model image conforms place n h.kind h.number path-is v there fitting))
 
-          pub bytes_fit : length (bytes_along model image first count v) ≤ length buffer
-          bytes_fit =
-              omega (
-                arith,
-                ap length bytes_are,
-                results_fit_buffer model image conforms place n kind holder path-is v there fitting,
-                room,
-              )
+          bytes_fit : length (bytes_along m i run v) ≤ length buffer
+          bytes_fit = omega (arith, ap length bytes_are, results_fit_buffer model image conforms place n h.kind h.number path-is v there fitting, room)
 
-          pub few-opened : length (opened_along model image first count v) < 65536
+          few-opened : length (opened_along m i run v) < 65536
           few-opened =
               let z = sized image keeps_20 in
               omega (
                 arith,
                 ap length slots_are,
-                opened-at-most model image conforms place n kind holder path-is v there fitting,
+                opened-at-most model image conforms place n h.kind h.number path-is v there fitting,
                 z.slots-count,
                 z.slots-most,
               )
 
-          four_each : length (bytes_along model image first count v) ≡ 4 * length (walk_results model image place n v)
+          four_each : length (bytes_along m i run v) ≡ 4 * length (walk_results model image place n v)
           unfolding result_bytes
           four_each = ap length bytes_are ∙ bytes-length (walk_results model image place n v)
 
-          pub few-results : length (bytes_along model image first count v) ≤ 12292
+          few-results : length (bytes_along m i run v) ≤ 12292
           few-results =
               let z = sized image keeps_20 in
               omega (
                 arith,
                 four_each,
-                results-at-most model image conforms place n kind holder path-is v there fitting,
+                results-at-most model image conforms place n h.kind h.number path-is v there fitting,
                 z.slots-count,
                 z.slots-most,
                 z.items-count,
                 z.items-most,
               )
 
-          pub answered : {end opened : ℕ} {out : List ℕ} → out ≡ sets buffer 0 (bytes_along model image first count v) →
-              end ≡ length (bytes_along model image first count v) → opened ≡ length (opened_along model image first count v) →
-              Owed (accepted (end / 4 ∷ opened ∷ [])) out
+          answered : {end opened : ℕ} {out : List ℕ} → out ≡ sets buffer 0 (bytes_along m i run v) →
+              end ≡ length (bytes_along m i run v) → opened ≡ length (opened_along m i run v) → Owed (accepted (end / 4 ∷ opened ∷ [])) out
           unfolding walk_buffer
           answered {end} {opened} {out} x y z =
-              let w = not-refused model image conforms place n kind holder path-is v there fitting buffer room in
+              let w = not-refused model image conforms place n h.kind h.number path-is v there fitting buffer room in
               let e : end / 4 ≡ length (walk_results model image place n v) = omega (arith, y, four_each) in
               let o : opened ≡ length (walk_opened model image place n v) = z ∙ ap length slots_are in
-              let b = bytes_along model image first count v in
+              let b = bytes_along m i run v in
               let s : sets buffer 0 b ≡ b ++ drop (length b) buffer =
               sets-eq b buffer 0 (omega (arith, bytes_fit)) ∙ ap (λ (k : ℕ). b ++ drop k buffer) (zero-add (length b)) in
               (rw (e, o) (sym w), rw w (x ∙ s ∙ ap (λ (l : List ℕ). l ++ drop (length l) buffer) bytes_are))
+
+-- The same of a model and an instance that are those of the images, and of a run that is the path's.
+module _ (model image : List ℕ) (place n v : ℕ) (buffer : List ℕ) {m : Model} {i : Instance} {c : Option Holder} {r : Option ℕ}
+    (passing : (o : Answer) → o ≡ instance_then model image o) (m-is : m ≡ model_in model) (i-is : i ≡ instance_in image)
+    (choice : c ≡ path_chosen m (record_at m place) n) (first_of : r ≡ refusal (walk27 c) (walk28 m i (chosen_start m c) v) (walk29 i buffer)) where
+  chosen : c ≡ walk_path model place n
+  chosen = rw m-is at choice
+
+  first : r ≡ refusal (walk27 c) (walk28 (model_in model) (instance_in image) (chosen_start (model_in model) c) v) (walk29 (instance_in image) buffer)
+  first = rw (m-is, i-is) at first_of
+
+  pub refused_after : (rule : ℕ) → r ≡ Some rule → Owed model image place n v buffer (refused rule 0) buffer
+  refused_after rule some = refused_27_to_29 model image place n v buffer passing c chosen r first rule some
+
+  -- No rule is broken: the results fit, the counts are small, and the walk answers them.
+  pub record Walks (run : Run) : Type 0 where
+    pub small : v < 256
+    pub fits : length (bytes_along m i run v) ≤ length buffer
+    pub few : length (opened_along m i run v) < 65536
+    pub most : length (bytes_along m i run v) ≤ 12292
+    pub answers : {end opened : ℕ} {out : List ℕ} → out ≡ sets buffer 0 (bytes_along m i run v) →
+        end ≡ length (bytes_along m i run v) → opened ≡ length (opened_along m i run v) → Owed model image place n v buffer (accepted (end / 4 ∷ opened ∷ [])) out
+
+  pub walks : r ≡ None → {run : Run} → run.first ≡ (chosen_path m c).first → run.count ≡ (chosen_path m c).count → Walks run
+  walks none {run} f g =
+      let f' : run.first ≡ (chosen_path (model_in model) c).first = rw m-is at f in
+      let g' : run.count ≡ (chosen_path (model_in model) c).count = rw m-is at g in
+      record {
+        small = start_small model image place n v buffer passing c chosen r first none;
+        fits = rw (m-is, i-is) (bytes_fit model image place n v buffer passing c chosen r first none run f' g');
+        few = rw (m-is, i-is) (few-opened model image place n v buffer passing c chosen r first none run f' g');
+        most = rw (m-is, i-is) (few-results model image place n v buffer passing c chosen r first none run f' g');
+        answers = rw (m-is, i-is) (answered model image place n v buffer passing c chosen r first none run f' g');
+      }
 
 -- At most as many slots are opened as the instance has, whatever the walk answers.
 pub few-slots : (model image : List ℕ) (place n v : ℕ) (buffer : List ℕ) (a : Answer) → a ≡ walk_answer model image place n v buffer →

@@ -1,25 +1,21 @@
 -- The walk of one item, as the code makes it: the end, or one segment and then each item that takes its place. Assumes nothing.
-use Prim.Native.Nat.{ℕ, suc, ◌+◌, ◌-◌, ◌/◌, ◌%◌, ◌≤◌, ◌<◌}
+use Prim.Native.Nat.{ℕ, suc, ◌+◌, ◌-◌, ◌≤◌, ◌<◌}
 use mathlib.Core.Path.{◌≡◌, refl, sym, ap, ap₂, ◌∙◌}
-use mathlib.Core.List.{List, [], ◌∷◌}
+use mathlib.Core.List.{List, [], ◌∷◌, ◌++◌, append_assoc}
 use mathlib.Core.Bool.{Bool, true, false, false≢true, ◌||◌}
 use native.Mathlib.Omega.{arith}
-use lib.ListN.{length, set}
-use lib.Seq.{sets}
+use lib.ListN.{length, take, drop}
+use lib.Seq.{sets, sets-eq, drop-drop}
 use lib.Dec.{eqb}
 use borrow.Author.Tests.{eqb-true, eqb-false}
 use Rattle.csdl.specs.Search.{tab}
 use Rattle.csdl.specs.Model.{Model}
 use Rattle.csdl.specs.Path.{Segment, segment_at}
-use Rattle.csdl.specs.Image.{model_in}
-use Rattle.csdl.specs.Instance.{Instance, instance_in, image20}
+use Rattle.csdl.specs.Instance.{Instance}
 use Rattle.csdl.specs.Walk.{Item, bytes_of_number, bytes_of_item}
 use Rattle.csdl.specs.Walk.Item.{value}
 use Rattle.csdl.specs.Walk.Origin.{at_slot}
 use Rattle.csdl.proofs.Logic.{or_no, and_cases}
-use Rattle.model_image.specs.Laid.{Laid, types_in}
-use Rattle.model_image.specs.declared.layout.Layout.{Layout}
-use Rattle.type_hierarchy.specs.AncestorSets.{ancestors_of}
 use Rattle.walk_step.specs.Seen.{null_code, item_of, path_from, written, openings, stops_at, next_at, item_in, StepIs}
 use Rattle.walk_step.specs.declared.Next.{Next}
 use Rattle.walk_step.proofs.Moves.{step_is}
@@ -37,15 +33,13 @@ four_bytes : (t v : ℕ) → length (bytes_of_item (value t v)) ≡ 4
 unfolding bytes_of_item bytes_of_number
 four_bytes t v = refl
 
--- The bytes of an item, one by one.
-pub write_is : (out : List ℕ) (at t v : ℕ) →
-    set (set (set (set out at t) (at + 1) (v / 65536 % 256)) (at + 2) (v / 256 % 256)) (at + 3) (v / 1 % 256) ≡ sets out at (bytes_of_item (value t v))
-unfolding bytes_of_item bytes_of_number
-write_is out at t v =
-    let a : at + 1 ≡ suc at = omega arith in
-    let b : at + 2 ≡ suc (suc at) = omega arith in
-    let c : at + 3 ≡ suc (suc (suc at)) = omega arith in
-    rw (a, b, c)
+-- The bytes of an item in the place of four.
+pub write_is : (out : List ℕ) (at t v : ℕ) → at + 4 ≤ length out →
+    take at out ++ (bytes_of_item (value t v) ++ drop 4 (drop at out)) ≡ sets out at (bytes_of_item (value t v))
+write_is out at t v h =
+    let b = bytes_of_item (value t v) in
+    let e : at + length b ≡ at + 4 = ap (λ (n : ℕ). at + n) (four_bytes t v) in
+    sym (sets-eq b out at (omega (arith, e)) ∙ rw (e, drop-drop, append_assoc))
 
 -- What item q of those that come next writes and opens.
 abbrev written_by : Model → Instance → Position → Next → ℕ → List ℕ
@@ -54,11 +48,11 @@ written_by m i here next q = written m i (here.k + 1) (here.left - 1) (item_in i
 abbrev opened_below : Model → Instance → Position → Next → ℕ → List ℕ
 opened_below m i here next q = openings m i (here.k + 1) (here.left - 1) (item_in i next q).t (item_in i next q).v
 
--- The loop over the items that come next: what was written to out₀ and opened before the j-th of them.
+-- The loop over the items that come next: what was written to out₀ and opened before item q.
 abbrev Round : Model → Instance → Position → Next → List ℕ → List ℕ → ℕ → ℕ → ℕ → Type 0
-Round m i here next out₀ out end o j =
-    Going (written_by m i here next) (opened_below m i here next) (written_from m i here) (opened_from m i here) out₀ here.end next.first next.count
-    out end o j
+Round m i here next out₀ out end o q =
+    Going (written_by m i here next) (opened_below m i here next) (written_from m i here) (opened_from m i here) out₀ here.end
+    (next.first + next.count) out end o q
 
 module _ (m : Model) (i : Instance) (here : Position) where
   abbrev k : ℕ
@@ -68,10 +62,10 @@ module _ (m : Model) (i : Instance) (here : Position) where
   left = here.left
 
   abbrev t : ℕ
-  t = here.t
+  t = here.item.t
 
   abbrev v : ℕ
-  v = here.v
+  v = here.item.v
 
   -- No segment is left, or the item is null: it is its own result.
   module _ (h : stops_at left t v ≡ true) where
@@ -113,7 +107,7 @@ module _ (m : Model) (i : Instance) (here : Position) where
     is-value = rw not_null
 
     begin : (next : Next) → StepIs m i (segment_at m k) t v next → {out : List ℕ} →
-        here.end + length (written_from m i here) ≤ length out → length (opened_from m i here) < 65536 → Round m i here next out out here.end next.opened 0
+        here.end + length (written_from m i here) ≤ length out → length (opened_from m i here) < 65536 → Round m i here next out out here.end next.opened next.first
     unfolding written openings
     begin next s fit few =
         let g = segment_at m k in
@@ -129,95 +123,62 @@ module _ (m : Model) (i : Instance) (here : Position) where
         ∙ ap₂ ◌+◌ (sym s.opening-is) (ap length (rest_all (opened_below m i here next) first count)) in
         going_start a b fit few
 
--- What the walk of an item asks of the images, the table of ancestors and the buffer.
-abbrev Asked : List ℕ → Layout → List ℕ → List ℕ → Position → List ℕ → Type 0
-Asked model at image ancestors here out =
-    (Laid model at × (image20 image ≡ false) × (ancestors ≡ ancestors_of (types_in model)) × (here.k + here.left < 65536))
-    × ((here.end + length (written_from (model_in model) (instance_in image) here) ≤ length out)
-    × (length (opened_from (model_in model) (instance_in image) here) < 65536))
+-- What the walk of an item asks of its place and of the buffer.
+abbrev Asked : Model → Instance → Position → List ℕ → Type 0
+Asked m i here out =
+    (here.k + here.left < 65536) × ((here.end + length (written_from m i here) ≤ length out) × (length (opened_from m i here) < 65536))
 
 -- What it gives: the buffer, where the results end, how many slots were opened.
-abbrev Given : List ℕ → List ℕ → Position → List ℕ → List ℕ → Done → Type 0
-Given model image here out out' d =
-    (out' ≡ sets out here.end (written_from (model_in model) (instance_in image) here))
-    × ((d.end ≡ here.end + length (written_from (model_in model) (instance_in image) here))
-    × (d.opened ≡ length (opened_from (model_in model) (instance_in image) here)))
+abbrev Given : Model → Instance → Position → List ℕ → List ℕ → Done → Type 0
+Given m i here out out' d =
+    (out' ≡ sets out here.end (written_from m i here)) × ((d.end ≡ here.end + length (written_from m i here)) × (d.opened ≡ length (opened_from m i here)))
 
--- The loop before the j-th of the items that come next.
-pub record Turn (model : List ℕ) (at : Layout) (image ancestors : List ℕ) (here : Position) (next : Next) (out₀ out : List ℕ) (end o j : ℕ) : Type 0 where
-  pub laid : Laid model at
-  pub formed : image20 image ≡ false
-  pub table : ancestors ≡ ancestors_of (types_in model)
+-- The loop before item q of those that come next.
+pub record Turn (m : Model) (i : Instance) (here : Position) (next : Next) (out₀ out : List ℕ) (end o q : ℕ) : Type 0 where
   pub few-segments : here.k + here.left < 65536
   pub some : 0 < here.left
-  pub few-items : next.first + next.count < 65536
-  pub round : Round (model_in model) (instance_in image) here next out₀ out end o j
+  pub round : Round m i here next out₀ out end o q
 
-module _ (model : List ℕ) (at : Layout) (image ancestors : List ℕ) (here : Position) (out : List ℕ) (asked : Asked model at image ancestors here out) where
+module _ (m : Model) (i : Instance) (here : Position) (out : List ℕ) (asked : Asked m i here out) where
   -- Where the walk stops.
-  module _ (h : stops_at here.left here.t here.v ≡ true) where
+  module _ (h : stops_at here.left here.item.t here.item.v ≡ true) where
     pub last_fits : here.end + 4 ≤ length out
-    last_fits = stop_fits (model_in model) (instance_in image) here h asked.1.0
+    last_fits = stop_fits m i here h asked.1.0
 
-    pub last_is : {out' : List ℕ} {d : Done} → out' ≡ sets out here.end (bytes_of_item (value here.t here.v)) → (d.end ≡ here.end + 4) × (d.opened ≡ 0) →
-        Given model image here out out' d
-    last_is e f = stop_is (model_in model) (instance_in image) here h out e f.0 f.1
+    pub last_is : {out' : List ℕ} {d : Done} → out' ≡ sets out here.end (bytes_of_item (value here.item.t here.item.v)) → (d.end ≡ here.end + 4) × (d.opened ≡ 0) →
+        Given m i here out out' d
+    last_is e f = stop_is m i here h out e f.0 f.1
 
   -- Where it goes on.
-  pub turn_start : stops_at here.left here.t here.v ≡ false → {next : Next} →
-      next ≡ next_at (model_in model) (instance_in image) here.k here.t here.v → Turn model at image ancestors here next out out here.end next.opened 0
+  pub turn_start : stops_at here.left here.item.t here.item.v ≡ false → {next : Next} → next ≡ next_at m i here.k here.item →
+      Turn m i here next out out here.end next.opened next.first
   turn_start h {next} e =
-      let m = model_in model in
-      let i = instance_in image in
-      let s : StepIs m i (segment_at m here.k) here.t here.v next = rw e (step_is m image here.k here.t here.v (not_null m i here h)) in
+      let s : StepIs m i (segment_at m here.k) here.item.t here.item.v next = rw e (step_is m i here.k here.item (not_null m i here h)) in
       record {
-        laid = asked.0.0;
-        formed = asked.0.1;
-        table = asked.0.2;
-        few-segments = asked.0.3;
+        few-segments = asked.0;
         some = some_left m i here h;
-        few-items = s.small;
         round = begin m i here h next s asked.1.0 asked.1.1;
       }
 
-module _ {model : List ℕ} {at : Layout} {image ancestors : List ℕ} {here : Position} {next : Next} {out₀ out : List ℕ} {end o j : ℕ}
-    (turn : Turn model at image ancestors here next out₀ out end o j) where
-  module _ (h : j < next.count) where
-    pub turn_number : next.first + j < 65536
-    turn_number = omega (arith, turn.few-items)
-
-    pub turn_next : j + 1 < 65536
-    turn_next = omega (arith, turn.few-items)
-
-    pub turn_less : next.count - (j + 1) < next.count - j
-    turn_less = omega arith
-
-    -- The walk of the item at hand.
-    module _ {there : Position} (e : there ≡ next_position here (item_in (instance_in image) next (next.first + j)) end) where
-      pub turn_asks : {left : ℕ} → here.left ≡ left → (there.left < left) × Asked model at image ancestors there out
-      turn_asks q =
+module _ {m : Model} {i : Instance} {here : Position} {next : Next} {out₀ out : List ℕ} {end o q : ℕ} (turn : Turn m i here next out₀ out end o q) where
+  module _ (h : q < next.first + next.count) where
+    -- The walk of the item.
+    module _ {there : Position} (e : there ≡ next_position here (item_in i next q) end) where
+      pub turn_asks : {left : ℕ} → here.left ≡ left → (there.left < left) × Asked m i there out
+      turn_asks p =
           let a = turn.some in
           let b = turn.few-segments in
-          rw (e, ← q)
-          (omega arith, ((turn.laid, turn.formed, turn.table, omega arith), (going_fits turn.round h, omega (arith, going_few turn.round h))))
+          rw (e, ← p) (omega arith, (omega arith, (going_fits turn.round h, omega (arith, going_few turn.round h))))
 
-      module _ {out' : List ℕ} {d : Done} (g : Given model image there out out' d) where
-        given : Given model image (next_position here (item_in (instance_in image) next (next.first + j)) end) out out' d
+      module _ {out' : List ℕ} {d : Done} (g : Given m i there out out' d) where
+        given : Given m i (next_position here (item_in i next q) end) out out' d
         given = rw e at g
 
         pub turn_opened : o + d.opened < 65536
         turn_opened = rw given.1.1 (going_few turn.round h)
 
-        pub turn_more : Turn model at image ancestors here next out₀ out' d.end (o + d.opened) (j + 1)
-        turn_more = record {
-          laid = turn.laid;
-          formed = turn.formed;
-          table = turn.table;
-          few-segments = turn.few-segments;
-          some = turn.some;
-          few-items = turn.few-items;
-          round = going_more turn.round h given.0 given.1.0 given.1.1;
-        }
+        pub turn_more : Turn m i here next out₀ out' d.end (o + d.opened) (q + 1)
+        turn_more = record { few-segments = turn.few-segments; some = turn.some; round = going_more turn.round h given.0 given.1.0 given.1.1 }
 
-  pub turn_end : next.count ≤ j → {d : Done} → d.end ≡ end → d.opened ≡ o → Given model image here out₀ out d
+  pub turn_end : next.first + next.count ≤ q → {d : Done} → d.end ≡ end → d.opened ≡ o → Given m i here out₀ out d
   turn_end h e f = let g = going_end turn.round h in (g.0, (e ∙ g.1.0, f ∙ g.1.1))

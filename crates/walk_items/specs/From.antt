@@ -8,10 +8,10 @@ use Rattle.walk_items.specs.declared.Position.{Position}
 
 -- At an item that comes next, one segment further, with results from byte `end` on.
 abbrev pub next_position : Position → Item → ℕ → Position
-next_position p x end = record { k = p.k + 1; left = p.left - 1; t = x.t; v = x.v; end = end }
+next_position p x end = record { k = p.k + 1; left = p.left - 1; item = x; end = end }
 
 abbrev pub written_from : Model → Instance → Position → List ℕ
-written_from m i p = written m i p.k p.left p.t p.v
+written_from m i p = written m i p.k p.left p.item.t p.item.v
 
 abbrev pub opened_from : Model → Instance → Position → List ℕ
-opened_from m i p = openings m i p.k p.left p.t p.v
+opened_from m i p = openings m i p.k p.left p.item.t p.item.v

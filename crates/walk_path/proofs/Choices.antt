@@ -1,17 +1,13 @@
 -- The path that a walk takes, at any place. Assumes nothing.
 use Prim.Native.Nat.{ℕ, ◌≤◌}
-use mathlib.Core.Path.{◌≡◌}
-use mathlib.Core.List.{List}
+use mathlib.Core.Path.{◌≡◌, refl}
 use native.Mathlib.Omega.{arith}
 use borrow.Author.Tests.{le-ltb}
-use Rattle.csdl.specs.Image.{model_in}
+use Rattle.std.proofs.Common.{None}
 use Rattle.csdl.specs.Model.{Model, record_at, places, types_at, properties_at, keys_at, constraints_at, children_at, bindings_at, segments_at}
-use Rattle.csdl.specs.Walk.{path_chosen, walk_path}
-use Rattle.csdl.specs.declared.Chosen.TheVariants.{NoPath}
-use Rattle.csdl.specs.declared.Record.TheVariants.{Nowhere}
-use Rattle.model_image.specs.declared.layout.Layout.{Layout}
-use Rattle.model_image.specs.Laid.{Laid, record_by}
-use Rattle.model_image.proofs.Laid.{opened, record_in}
+use Rattle.csdl.specs.Walk.{path_chosen}
+use Rattle.csdl.specs.declared.Record.{Record}
+use Rattle.csdl.specs.declared.Record.TheVariants.{OfSchema, OfType, OfProperty, OfKey, OfConstraint, OfChild, OfBinding, OfSegment, Nowhere}
 
 -- There is no record past the last place.
 nowhere : (m : Model) (place : ℕ) → places m ≤ place → record_at m place ≡ Nowhere
@@ -28,11 +24,20 @@ nowhere m place h =
       le-ltb place (places m) h,
     )
 
--- No place is as far as 65536.
-pub far : (model : List ℕ) (at : Layout) → Laid model at → (place path : ℕ) → 65536 ≤ place → NoPath ≡ walk_path model place path
+pub far : (m : Model) (place path : ℕ) → places m ≤ place → None ≡ path_chosen m (record_at m place) path
 unfolding path_chosen
-far model at l place path h = let o = opened l in rw (nowhere (model_in model) place (omega (arith, o.places, o.places-most)))
+far m place path h = rw (nowhere m place h)
 
--- The record at a place, by the layout.
-pub record_is : (model : List ℕ) (at : Layout) → Laid model at → (place : ℕ) → record_by at place ≡ record_at (model_in model) place
-record_is model at l place = record_in (opened l) place
+-- The other records hold none.
+pub other : (m : Model) (path : ℕ) (r : Record) → ((p : ℕ) → r ≡ OfProperty p → ⊥) → ((k : ℕ) → r ≡ OfKey k → ⊥) → ((c : ℕ) → r ≡ OfConstraint c → ⊥)
+    → ((b : ℕ) → r ≡ OfBinding b → ⊥) → None ≡ path_chosen m r path
+unfolding path_chosen
+other m path (OfSchema s) p k c b = refl
+other m path (OfType t) p k c b = refl
+other m path (OfProperty x) p k c b = absurd (p x refl)
+other m path (OfKey x) p k c b = absurd (k x refl)
+other m path (OfConstraint x) p k c b = absurd (c x refl)
+other m path (OfChild h) p k c b = refl
+other m path (OfBinding x) p k c b = absurd (b x refl)
+other m path (OfSegment g) p k c b = refl
+other m path Nowhere p k c b = refl

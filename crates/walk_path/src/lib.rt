@@ -1,173 +1,122 @@
 // The path that a walk takes, and rules 27 to 29.
 #![tactic(auto)]
 
-ghost use Rattle.std.specs.Prelude.{◌≡◌, cond, false, [], ◌<◌, eqb};
-ghost use Rattle.csdl.specs.Image.{model_in};
-ghost use Rattle.csdl.specs.Instance.{instance_of, instance_in, image20};
-ghost use Rattle.csdl.specs.Walk.{if_present, path_chosen, chosen_start, walk_path, walk27, walk28, walk29};
-ghost use Rattle.csdl.specs.declared.Chosen.TheVariants.{NoPath};
-ghost use Rattle.model_image.specs.Laid.{Laid};
+ghost use Rattle.instance_image.specs.Read.{instance_read};
+ghost use Rattle.model_image.specs.Read.{model_read};
+ghost use Rattle.std.specs.Prelude.{◌≡◌, ◌<◌};
+ghost use Rattle.csdl.specs.Model.{record_at};
+ghost use Rattle.csdl.specs.Walk.{if_present, path_chosen, chosen_start, walk27, walk28, walk29};
 ghost use Rattle.walk_path.specs.Chosen.{chosen_path};
 ghost use Rattle.walk_path.specs.Refusal.{refusal};
-ghost use Rattle.instance_image.specs.Limits.{FewItems, FewNodes, FewSlots};
 
-use csdl::{Chosen, PathKind, Record, Run};
-use instance_image::fields::{item_count, node_count, node_type, slot_count};
-use instance_image::tables::{items_of, nodes_of, slots_of};
-use model_image::layout::{Layout, record_at, types_of};
-use path_kinds::in_image::{path_in, start_in};
+use csdl::{Holder, PathKind, Record, Run};
+use instance_image::instance::Instance;
+use model_image::model::Model;
+use path_kinds::kinds::{path_of, start_of};
 use type_hierarchy::bases::ancestor_or_self;
 
-// The path of the kind, if the record holds one.
-fn if_present(model: &[u8], at: Layout, kind: PathKind, holder: u16) -> Chosen
-    requires { Laid model.now at }
-    ensures { result ≡ if_present (model_in model.now) kind holder }
+// The record as a holder of the kind, if it holds such a path.
+fn if_present(model: &Model, kind: PathKind, number: u16) -> Option<Holder>
+    ensures { result ≡ if_present (model_read model.now) kind number }
 {
-    let run = path_in(model, at, kind, holder);
-    if run.count == 0 {
-        return Chosen::NoPath;
+    if path_of(model, kind, number).count == 0 {
+        return None;
     }
-    Chosen::PathOf { kind, holder }
-}
-
-// Path 0 of a record that may hold one.
-fn only_path(model: &[u8], at: Layout, kind: PathKind, holder: u16, path: u32) -> Chosen
-    requires { Laid model.now at }
-    ensures { result ≡ cond (eqb path 0) (if_present (model_in model.now) kind holder) NoPath }
-{
-    if path == 0 {
-        return if_present(model, at, kind, holder);
-    }
-    Chosen::NoPath
-}
-
-// Path 0 or 1 of a record that may hold two.
-fn one_of_two(
-    model: &[u8],
-    at: Layout,
-    first: PathKind,
-    second: PathKind,
-    holder: u16,
-    path: u32,
-) -> Chosen
-    requires { Laid model.now at }
-    ensures { result ≡ cond (eqb path 0) (if_present (model_in model.now) first holder) (cond (eqb path 1) (if_present (model_in model.now) second holder) NoPath) }
-{
-    if path == 0 {
-        return if_present(model, at, first, holder);
-    }
-    if path == 1 {
-        return if_present(model, at, second, holder);
-    }
-    Chosen::NoPath
+    Some(Holder { kind, number })
 }
 
 // The path of a number of the record, if it holds such a path.
-fn path_chosen(model: &[u8], at: Layout, rec: Record, path: u32) -> Chosen
-    requires { Laid model.now at }
-    ensures { result ≡ path_chosen (model_in model.now) rec path }
+fn path_chosen(model: &Model, rec: Record, path: u32) -> Option<Holder>
+    ensures { result ≡ path_chosen (model_read model.now) rec path }
 {
-    match rec {
-        Record::OfSchema(_) => Chosen::NoPath,
-        Record::OfType(_) => Chosen::NoPath,
-        Record::OfProperty(p) => only_path(model, at, PathKind::Partner, p, path),
-        Record::OfKey(k) => only_path(model, at, PathKind::Key, k, path),
-        Record::OfConstraint(c) => {
-            one_of_two(model, at, PathKind::Dependent, PathKind::Principal, c, path)
-        }
-        Record::OfChild(_) => Chosen::NoPath,
-        Record::OfBinding(b) => {
-            one_of_two(model, at, PathKind::Binding, PathKind::Target, b, path)
-        }
-        Record::OfSegment(_) => Chosen::NoPath,
-        Record::Nowhere => Chosen::NoPath,
+    match (rec, path) {
+        (Record::OfProperty(p), 0) => if_present(model, PathKind::Partner, p),
+        (Record::OfKey(k), 0) => if_present(model, PathKind::Key, k),
+        (Record::OfConstraint(c), 0) => if_present(model, PathKind::Dependent, c),
+        (Record::OfConstraint(c), 1) => if_present(model, PathKind::Principal, c),
+        (Record::OfBinding(b), 0) => if_present(model, PathKind::Binding, b),
+        (Record::OfBinding(b), 1) => if_present(model, PathKind::Target, b),
+        _ => None,
     }
 }
 
 // The path of a number of the record at a place.
-pub fn choose(model: &[u8], at: Layout, place: u32, path: u32) -> Chosen
-    requires { Laid model.now at }
-    ensures { result ≡ walk_path model.now place path }
+pub fn choose(model: &Model, place: u32, path: u32) -> Option<Holder>
+    ensures { result ≡ path_chosen (model_read model.now) (record_at (model_read model.now) place) path }
 {
-    if place >= 65536 {
-        return Chosen::NoPath;
+    let places = model.places();
+    match u16::try_from(place) {
+        Ok(place) => path_chosen(model, places.record_at(place), path),
+        Err(_) => None,
     }
-    path_chosen(model, at, record_at(at, place as u16), path)
 }
 
 // The segments of the path, and the type at which it starts.
-pub fn chosen_path(model: &[u8], at: Layout, chosen: Chosen) -> Run
-    requires { Laid model.now at }
-    ensures { (result.first ≡ (chosen_path (model_in model.now) chosen).first) × (result.count ≡ (chosen_path (model_in model.now) chosen).count) × (result.first < 2048) × (result.count < 16) }
+pub fn chosen_path(model: &Model, chosen: Option<Holder>) -> Run
+    ensures { (result.first ≡ (chosen_path (model_read model.now) chosen).first) × (result.count ≡ (chosen_path (model_read model.now) chosen).count) × (result.first < 2048) × (result.count < 16) }
 {
     match chosen {
-        Chosen::NoPath => Run { first: 0, count: 0 },
-        Chosen::PathOf { kind, holder } => path_in(model, at, kind, holder),
+        Some(holder) => path_of(model, holder.kind, holder.number),
+        None => Run { first: 0, count: 0 },
     }
 }
 
-fn chosen_start(model: &[u8], at: Layout, chosen: Chosen) -> u16
-    requires { Laid model.now at }
-    ensures { result ≡ chosen_start (model_in model.now) chosen }
+fn chosen_start(model: &Model, chosen: Option<Holder>) -> u16
+    ensures { result ≡ chosen_start (model_read model.now) chosen }
 {
     match chosen {
-        Chosen::NoPath => 64,
-        Chosen::PathOf { kind, holder } => start_in(model, at, kind, holder),
+        Some(holder) => start_of(model, holder.kind, holder.number),
+        None => 64,
     }
 }
 
 // Rule 27.
-fn walk_27(chosen: Chosen) -> bool
+fn walk_27(chosen: Option<Holder>) -> bool
     ensures { result ≡ walk27 chosen }
 {
-    match chosen {
-        Chosen::NoPath => true,
-        Chosen::PathOf { .. } => false,
-    }
+    chosen.is_none()
 }
 
 // Rule 28: t is the type at which the path starts, v the start node.
-fn walk_28(model: &[u8], at: Layout, nodes: &[u8], t: u16, v: u32) -> bool
-    requires { Laid model.now at × FewNodes nodes.now }
-    ensures { result ≡ walk28 (model_in model.now) (instance_of nodes.now [] []) t v }
+#[tactic(auto, unfolding(csdl::specs::Walk::walk28))]
+fn walk_28(model: &Model, instance: &Instance, t: u16, v: u32) -> bool
+    ensures { result ≡ walk28 (model_read model.now) (instance_read instance.now) t v }
 {
-    if v >= node_count(nodes) as u32 {
+    if v >= u32::from(instance.node_count()) {
         return true;
     }
-    !ancestor_or_self(types_of(model, at), t, node_type(nodes, v as u16))
+    !ancestor_or_self(model, t, instance.node_type(v as u16))
 }
 
 // Rule 29.
-fn walk_29(slots: &[u8], items: &[u8], results: &[u8]) -> bool
-    requires { FewSlots slots.now × FewItems items.now }
-    ensures { result ≡ walk29 (instance_of [] slots.now items.now) results.now }
+#[tactic(auto, unfolding(csdl::specs::Walk::walk29))]
+fn walk_29(instance: &Instance, results: &[u8]) -> bool
+    ensures { result ≡ walk29 (instance_read instance.now) results.now }
 {
-    results.len() < 4 * (1 + slot_count(slots) as usize + item_count(items) as usize)
+    results.len()
+        < 4 * (1 + usize::from(instance.slot_count()) + usize::from(instance.item_count()))
 }
 
-// The first broken of rules 27 to 29, for a walk from the node into the buffer: 0 for none, else its number.
+// The first broken of rules 27 to 29, for a walk from the node into the buffer.
 pub fn refused_by(
-    model: &[u8],
-    at: Layout,
-    instance: &[u8],
-    chosen: Chosen,
+    model: &Model,
+    instance: &Instance,
+    chosen: Option<Holder>,
     node: u32,
     results: &[u8],
-) -> u16
-    requires { Laid model.now at × (image20 instance.now ≡ false) }
-    ensures { result ≡ refusal (walk27 chosen) (walk28 (model_in model.now) (instance_in instance.now) (chosen_start (model_in model.now) chosen) node) (walk29 (instance_in instance.now) results.now) }
+) -> Option<u16>
+    ensures { result ≡ refusal (walk27 chosen) (walk28 (model_read model.now) (instance_read instance.now) (chosen_start (model_read model.now) chosen) node) (walk29 (instance_read instance.now) results.now) }
 {
-    let t = chosen_start(model, at, chosen);
     let no_path = walk_27(chosen);
-    let bad_start = walk_28(model, at, nodes_of(instance), t, node);
+    let bad_start = walk_28(model, instance, chosen_start(model, chosen), node);
     if no_path {
-        return 27;
+        return Some(27);
     }
     if bad_start {
-        return 28;
+        return Some(28);
     }
-    if walk_29(slots_of(instance), items_of(instance), results) {
-        return 29;
+    if walk_29(instance, results) {
+        return Some(29);
     }
-    0
+    None
 }

@@ -1,27 +1,22 @@
 -- One segment at a node, case by case: what takes its place is what the walk's definition puts there. Assumes nothing.
-use Prim.Native.Nat.{ℕ, zero, suc, ◌+◌, ◌*◌}
+use Prim.Native.Nat.{ℕ, zero, suc, ◌+◌}
 use mathlib.Core.Path.{◌≡◌, refl, ap₂}
-use mathlib.Core.List.{List, [], ◌∷◌}
+use mathlib.Core.List.{List, ◌∷◌}
 use mathlib.Core.Bool.{Bool, true, false, cond}
-use native.Mathlib.Omega.{arith}
 use lib.Dec.{eqb}
-use Rattle.packed.specs.Bytes.{part}
-use Rattle.packed.proofs.Laws.{field_lt}
-use Rattle.csdl.specs.Search.{tab}
-use Rattle.csdl.specs.Tables.{segment_cast, segment_type, segment_name}
-use Rattle.csdl.specs.Model.{Model, model_of, text}
-use Rattle.csdl.specs.Find.{structured, ancestor_or_self, ancestor}
-use Rattle.csdl.specs.Image.{model_in}
+use Rattle.std.proofs.Common.{None}
+use Rattle.csdl.specs.Search.{tab, if_found}
+use Rattle.csdl.specs.Model.{Model, text}
+use Rattle.csdl.specs.Find.{structured, ancestor_or_self}
 use Rattle.csdl.specs.Path.{Segment, segment_at}
 use Rattle.csdl.specs.Path.Segment.{name, cast}
-use Rattle.csdl.specs.Instance.{Instance, instance_of, instance_in, slot_state_in, slot_items_in}
+use Rattle.csdl.specs.Instance.{Instance}
 use Rattle.csdl.specs.Conforms.{is_null}
 use Rattle.csdl.specs.Walk.{slot_named, item_at, contents, opening, after}
 use Rattle.csdl.specs.Walk.Item.{null, value}
 use Rattle.csdl.specs.Walk.Origin.{at_slot}
-use Rattle.model_image.specs.Laid.{types_in, properties_in, segments_in, names_in}
-use Rattle.instance_image.specs.Tables.{nodes_in, slots_in}
-use Rattle.walk_step.specs.Seen.{null_code, item_of, erase, erased, own_next, slot_next, kept_next, next_at, item_in, StepIs}
+use Rattle.walk_step.specs.Seen.{null_code, item_of, erase, erased, own_next, no_next, contents_of, kept_next, next_at, item_in, StepIs}
+use Rattle.walk_step.specs.declared.Item.{Item as Seen}
 
 erase-item : (i : Instance) (s k : ℕ) → erase (item_at i s k) ≡ item_of (i.item_ref k) (i.item_handle k)
 unfolding erase item_at is_null item_of
@@ -36,10 +31,7 @@ unfolding erased tab
 erased-items i s k zero = refl
 erased-items i s k (suc n) = ap₂ ◌∷◌ (erase-item i s k) (erased-items i s (k + 1) n)
 
-module _ (m : Model) (image : List ℕ) (k t v : ℕ) where
-  abbrev i : Instance
-  i = instance_in image
-
+module _ (m : Model) (i : Instance) (k : ℕ) (x : Seen) where
   abbrev nm : List ℕ
   nm = text m (m.segment_name k)
 
@@ -52,83 +44,54 @@ module _ (m : Model) (image : List ℕ) (k t v : ℕ) where
   is_name e = rw e
 
   -- What is not structured has no slots and no type to be cast to.
-  not-node : structured m t ≡ false → StepIs m i (segment_at m k) t v (own_next 0 0 0 0)
+  not-node : structured m x.t ≡ false → StepIs m i (segment_at m k) x.t x.v no_next
   unfolding after opening erased tab
   not-node z = go (segment_at m k)
     where
-      go : (g : Segment) → StepIs m i g t v (own_next 0 0 0 0)
-      go (name x) = record { next-is = rw z; opening-is = rw z; small = omega arith }
-      go (cast c) = record { next-is = rw z; opening-is = refl; small = omega arith }
+      go : (g : Segment) → StepIs m i g x.t x.v no_next
+      go (name nm) = record { next-is = rw z; opening-is = rw z }
+      go (cast c) = record { next-is = rw z; opening-is = refl }
 
-  module _ (node : structured m t ≡ true) where
+  module _ (node : structured m x.t ≡ true) where
     -- A cast keeps the node, or puts null.
-    at-cast : null_code t v ≡ false → m.is_cast k ≡ true → StepIs m i (segment_at m k) t v (kept_next (ancestor_or_self m (m.cast_type k) t) t v)
+    at-cast : null_code x.t x.v ≡ false → m.is_cast k ≡ true → StepIs m i (segment_at m k) x.t x.v (kept_next (ancestor_or_self m (m.cast_type k) x.t) x)
     unfolding after opening erased erase item_of item_in tab
-    at-cast some e = rw (is-cast e) (go (ancestor_or_self m (m.cast_type k) t) refl)
+    at-cast some e = rw (is-cast e) (go (ancestor_or_self m (m.cast_type k) x.t) refl)
       where
-        go : (b : Bool) → ancestor_or_self m (m.cast_type k) t ≡ b → StepIs m i (cast (m.cast_type k)) t v (kept_next b t v)
-        go true z = record { next-is = rw (node, z, some); opening-is = refl; small = omega arith }
-        go false z = record { next-is = rw (node, z); opening-is = refl; small = omega arith }
+        go : (b : Bool) → ancestor_or_self m (m.cast_type k) x.t ≡ b → StepIs m i (cast (m.cast_type k)) x.t x.v (kept_next b x)
+        go true z = record { next-is = rw (node, z, some); opening-is = refl }
+        go false z = record { next-is = rw (node, z); opening-is = refl }
 
     -- A name opens the node's slot of that name.
-    named : (s : ℕ) → slot_named m i nm v ≡ s → opening m i (name nm) (value t v) ≡ s
+    named : (s : ℕ) → slot_named m i nm x.v ≡ s → opening m i (name nm) (value x.t x.v) ≡ s
     unfolding opening
     named s f = rw node f
 
-    at_name : m.is_cast k ≡ false → StepIs m i (segment_at m k) t v (slot_next i (slot_named m i nm v))
-    unfolding after contents erased erase item_of item_in instance_in instance_of tab slot_next
-    at_name e = rw (is_name e) (go (slot_named m i nm v) refl)
+    at_name : m.is_cast k ≡ false → StepIs m i (segment_at m k) x.t x.v (if_found no_next (λ s. contents_of i s) (slot_named m i nm x.v))
+    unfolding after contents erased erase item_of item_in tab contents_of
+    at_name e = rw (is_name e) (go (slot_named m i nm x.v) refl)
       where
-        slots : List ℕ
-        slots = slots_in image
-
-        full : (s : ℕ) → slot_named m i nm v ≡ suc s → (b : Bool) → eqb (slot_state_in slots s) 0 ≡ b → StepIs m i (name nm) t v
-            (cond b (own_next 1 1 255 0) (record { opened = 1; first = (slot_items_in slots s).first; count = (slot_items_in slots s).count; own = false; t = 0; v = 0 }))
-        full s f true z = record { next-is = rw (named (suc s) f, z); opening-is = rw (named (suc s) f); small = omega arith }
+        full : (s : ℕ) → slot_named m i nm x.v ≡ suc s → (b : Bool) → eqb (i.state s) 0 ≡ b → StepIs m i (name nm) x.t x.v
+            (cond b (own_next 1 (record { t = 255; v = 0 })) (record { opened = 1; own = None; first = (i.slot_items s).first; count = (i.slot_items s).count }))
+        full s f true z = record { next-is = rw (named (suc s) f, z); opening-is = rw (named (suc s) f) }
         full s f false z =
             record {
-              next-is = rw (named (suc s) f, z) (erased-items i s (slot_items_in slots s).first (slot_items_in slots s).count);
+              next-is = rw (named (suc s) f, z) (erased-items i s (i.slot_items s).first (i.slot_items s).count);
               opening-is = rw (named (suc s) f);
-              small = omega (arith, field_lt slots (40 * s + 11) 12, field_lt slots (40 * s + 23) 12);
             }
 
-        go : (n : ℕ) → slot_named m i nm v ≡ n → StepIs m i (name nm) t v (slot_next i n)
-        go zero f = record { next-is = rw (named 0 f); opening-is = rw (named 0 f); small = omega arith }
-        go (suc s) f = full s f (eqb (slot_state_in slots s) 0) refl
+        go : (n : ℕ) → slot_named m i nm x.v ≡ n → StepIs m i (name nm) x.t x.v (if_found no_next (λ s. contents_of i s) n)
+        go zero f = record { next-is = rw (named 0 f); opening-is = rw (named 0 f) }
+        go (suc s) f = full s f (eqb (i.state s) 0) refl
 
   -- What comes next is what takes the item's place, if that is not null.
-  pub step_is : null_code t v ≡ false → StepIs m i (segment_at m k) t v (next_at m i k t v)
+  pub step_is : null_code x.t x.v ≡ false → StepIs m i (segment_at m k) x.t x.v (next_at m i k x)
   unfolding next_at
-  step_is some = go (structured m t) refl (m.is_cast k) refl
+  step_is some = go (structured m x.t) refl (m.is_cast k) refl
     where
-      go : (a : Bool) → structured m t ≡ a → (b : Bool) → m.is_cast k ≡ b →
-          StepIs m i (segment_at m k) t v
-          (cond a (cond b (kept_next (ancestor_or_self m (m.cast_type k) t) t v) (slot_next i (slot_named m i nm v))) (own_next 0 0 0 0))
+      go : (a : Bool) → structured m x.t ≡ a → (b : Bool) → m.is_cast k ≡ b →
+          StepIs m i (segment_at m k) x.t x.v
+          (cond a (cond b (kept_next (ancestor_or_self m (m.cast_type k) x.t) x) (if_found no_next (λ s. contents_of i s) (slot_named m i nm x.v))) no_next)
       go false e b f = not-node e
       go true e true f = at-cast e some f
       go true e false f = at_name e f
-
--- Over the tables of the two images.
-module _ (model image : List ℕ) (k t v : ℕ) where
-  pub next-none : structured (model_of [] (types_in model) [] [] [] [] [] [] []) t ≡ false → own_next 0 0 0 0 ≡ next_at (model_in model) (instance_in image) k t v
-  unfolding next_at structured model_in model_of
-  next-none e = rw e
-
-  module _ (node : structured (model_of [] (types_in model) [] [] [] [] [] [] []) t ≡ true) where
-    pub next-cast : segment_cast (segments_in model) k ≡ true →
-        kept_next (ancestor_or_self (model_of [] (types_in model) [] [] [] [] [] [] []) (segment_type (segments_in model) k) t) t v
-        ≡ next_at (model_in model) (instance_in image) k t v
-    unfolding next_at structured ancestor_or_self ancestor model_in model_of
-    next-cast e = rw (node, e)
-
-    pub next-slot : segment_cast (segments_in model) k ≡ false →
-        slot_next (instance_of [] (slots_in image) [])
-        (slot_named (model_of [] [] (properties_in model) [] [] [] [] [] (names_in model)) (instance_of (nodes_in image) (slots_in image) [])
-        (part (names_in model) (segment_name (segments_in model) k).start (segment_name (segments_in model) k).size) v)
-        ≡ next_at (model_in model) (instance_in image) k t v
-    unfolding next_at slot_next slot_named structured model_in model_of instance_in instance_of
-    next-slot e = rw (node, e) (go (slot_named (model_in model) (instance_in image) (text (model_in model) ((model_in model).segment_name k)) v))
-      where
-        go : (n : ℕ) → slot_next (instance_of [] (slots_in image) []) n ≡ slot_next (instance_in image) n
-        go zero = refl
-        go (suc s) = refl

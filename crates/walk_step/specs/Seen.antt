@@ -1,23 +1,15 @@
 -- What the code sees of a walk: items as type references and handles, with no origin of a null; the walk of one item; one step of it.
-use Rattle.std.specs.Prelude.{ℕ, zero, suc, ◌+◌, ◌<◌, ◌≡◌, List, [], ◌∷◌, Bool, true, false, cond, ◌&&◌, ◌||◌, length, eqb}
-use Rattle.csdl.specs.Search.{tab, flat}
-use Rattle.packed.specs.Bytes.{same, part}
-use Rattle.csdl.specs.Tables.{property_name}
+use Rattle.std.specs.Prelude.{ℕ, ◌≡◌, List, [], ◌∷◌, cond, ◌&&◌, ◌||◌, length, eqb, Bool, Option, Some, None}
+use Rattle.csdl.specs.Search.{tab, flat, if_found}
 use Rattle.csdl.specs.Model.{Model, text}
 use Rattle.csdl.specs.Find.{structured, ancestor_or_self}
 use Rattle.csdl.specs.Path.{Segment, segment_at}
-use Rattle.csdl.specs.Instance.{Instance, slot_property_in}
+use Rattle.csdl.specs.Instance.{Instance}
 use Rattle.csdl.specs.Walk.{Item, slot_named, opening, opened_by, after, walked, opened, bytes_of_item}
 use Rattle.csdl.specs.Walk.Item.{null, value}
 use Rattle.csdl.specs.Walk.Origin.{at_slot}
 use Rattle.walk_step.specs.declared.Next.{Next}
 use Rattle.walk_step.specs.declared.Item.{Item as Seen}
-
--- The property of slot s has the name.
-unfoldable pub has_name : List ℕ → List ℕ → List ℕ → List ℕ → ℕ → Bool
-has_name properties names slots nm s =
-    let n = property_name properties (slot_property_in slots s) in
-    same (part names n.start n.size) nm
 
 -- A null is 255 with handle 0.
 abbrev pub null_code : ℕ → ℕ → Bool
@@ -51,34 +43,44 @@ openings m i k left t v = opened m i (path_from m k left) (item_of t v ∷ [])
 abbrev pub stops_at : ℕ → ℕ → ℕ → Bool
 stops_at left t v = eqb left 0 || null_code t v
 
--- What takes an item's place: one item of its own, or none.
-abbrev pub own_next : ℕ → ℕ → ℕ → ℕ → Next
-own_next opened count t v = record { opened = opened; first = 0; count = count; own = true; t = t; v = v }
+-- What takes an item's place: one item of its own, or nothing.
+abbrev pub own_next : ℕ → Seen → Next
+own_next opened x = record { opened = opened; own = Some x; first = 0; count = 1 }
 
--- What stands in a slot, of which the number plus 1 is given: null, or a run of the table of items. Nothing for 0.
-unfoldable pub slot_next : Instance → ℕ → Next
-slot_next i zero = own_next 0 0 0 0
-slot_next i (suc s) =
-    cond (eqb (i.state s) 0) (own_next 1 1 255 0)
-    (record { opened = 1; first = (i.slot_items s).first; count = (i.slot_items s).count; own = false; t = 0; v = 0 })
+abbrev pub no_next : Next
+no_next = record { opened = 0; own = None; first = 0; count = 0 }
+
+-- The null that takes it.
+abbrev pub null_seen : Seen
+null_seen = record { t = 255; v = 0 }
+
+-- What stands in a slot: null, or a run of the table of items.
+unfoldable pub contents_of : Instance → ℕ → Next
+contents_of i s =
+    cond (eqb (i.state s) 0) (own_next 1 null_seen)
+    (record { opened = 1; own = None; first = (i.slot_items s).first; count = (i.slot_items s).count })
 
 -- A node where it stays, else null.
-abbrev pub kept_next : Bool → ℕ → ℕ → Next
-kept_next kept t v = cond kept (own_next 0 1 t v) (own_next 0 1 255 0)
+abbrev pub kept_next : Bool → Seen → Next
+kept_next kept x = cond kept (own_next 0 x) (own_next 0 null_seen)
 
 -- What takes the place of an item at segment k: a cast keeps a node at its type, a name opens the node's slot of that name.
-unfoldable pub next_at : Model → Instance → ℕ → ℕ → ℕ → Next
-next_at m i k t v =
-    cond (structured m t)
-    (cond (m.is_cast k) (kept_next (ancestor_or_self m (m.cast_type k) t) t v) (slot_next i (slot_named m i (text m (m.segment_name k)) v)))
-    (own_next 0 0 0 0)
+unfoldable pub next_at : Model → Instance → ℕ → Seen → Next
+next_at m i k x =
+    cond (structured m x.t)
+    (cond (m.is_cast k) (kept_next (ancestor_or_self m (m.cast_type k) x.t) x)
+    (if_found no_next (λ s. contents_of i s) (slot_named m i (text m (m.segment_name k)) x.v)))
+    no_next
 
 -- Item q of what comes next: its own, or one of the table of items.
+abbrev pub own_or : Option Seen → Seen → Seen
+own_or None y = y
+own_or (Some x) y = x
+
 unfoldable pub item_in : Instance → Next → ℕ → Seen
-item_in i next q = cond next.own (record { t = next.t; v = next.v }) (record { t = i.item_ref q; v = i.item_handle q })
+item_in i next q = own_or next.own (record { t = i.item_ref q; v = i.item_handle q })
 
 -- What comes next is what takes the place of an item r, h at a segment.
 pub record StepIs (m : Model) (i : Instance) (g : Segment) (r h : ℕ) (next : Next) : Type 0 where
   pub next-is : erased (after m i g (value r h)) ≡ tab (λ q. item_of (item_in i next q).t (item_in i next q).v) next.first next.count
   pub opening-is : next.opened ≡ length (opened_by (opening m i g (value r h)))
-  pub small : next.first + next.count < 65536

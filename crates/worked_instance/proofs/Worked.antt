@@ -7,6 +7,7 @@ use mathlib.Core.Logic.{⊎_elim}
 use native.Mathlib.Omega.{arith}
 use lib.ListN.{replicate}
 use borrow.Author.Tests.{ltb-true}
+use Rattle.std.proofs.Common.{Some}
 use Rattle.csdl.specs.Model.{in_run}
 use Rattle.csdl.specs.Image.{model_in}
 use Rattle.csdl.specs.Find.{ancestor_or_self}
@@ -17,7 +18,6 @@ use Rattle.csdl.specs.Conforms.{is_null, instance_answer}
 use Rattle.csdl.specs.Verdict.{model_answer}
 use Rattle.csdl.specs.Verdict.Answer.{accepted}
 use Rattle.csdl.specs.Walk.{walk_path, walk_results, walk_opened, walk_answer}
-use Rattle.csdl.specs.declared.Chosen.TheVariants.{PathOf}
 use Rattle.csdl.specs.Walk.Item.{null, value}
 use Rattle.csdl.specs.Walk.Origin.{at_slot, at-cast}
 use Rattle.csdl.specs.Accepted.{NullIn}
@@ -68,8 +68,8 @@ instance_accepted = refl
 
 -- Every kind of path: the place and number of each.
 pub kinds :
-    (walk_path tours 7 0 ≡ PathOf Partner 1) × (walk_path tours 19 0 ≡ PathOf Key 1) × (walk_path tours 20 0 ≡ PathOf Dependent 0)
-    × (walk_path tours 20 1 ≡ PathOf Principal 0) × (walk_path tours 24 0 ≡ PathOf Binding 0) × (walk_path tours 26 1 ≡ PathOf Target 2)
+    (walk_path tours 7 0 ≡ Some (record { kind = Partner; number = 1 })) × (walk_path tours 19 0 ≡ Some (record { kind = Key; number = 1 })) × (walk_path tours 20 0 ≡ Some (record { kind = Dependent; number = 0 }))
+    × (walk_path tours 20 1 ≡ Some (record { kind = Principal; number = 0 })) × (walk_path tours 24 0 ≡ Some (record { kind = Binding; number = 0 })) × (walk_path tours 26 1 ≡ Some (record { kind = Target; number = 2 }))
 unfolding everything tours
 kinds = (refl, refl, refl, refl, refl, refl)
 
@@ -94,7 +94,7 @@ unfolding everything tours trip
 nulls = (refl, refl, refl, refl, refl, refl, refl)
 
 -- The theorem's premises hold of it: the binding at place 25 is number 1, and node 0 is there, at the start type.
-path_held : walk_path tours 25 0 ≡ PathOf Binding 1
+path_held : walk_path tours 25 0 ≡ Some (record { kind = Binding; number = 1 })
 unfolding everything tours
 path_held = refl
 

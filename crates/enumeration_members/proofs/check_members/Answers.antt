@@ -1,15 +1,17 @@
-use mathlib.Core.Path.{sym, ◌∙◌}
-use Rattle.csdl.specs.Members.{members_answer, members_means}
-use Rattle.model_check.proofs.Then.{then_on, model_passes, model_stops}
+use Rattle.std.proofs.Common.{◌≡◌, ◌∙◌}
+use Rattle.std.proofs.lemmas.Result.{err_from_is_err_and}
+use Rattle.csdl.specs.Image.{model_in}
+use Rattle.csdl.specs.Members.{image_stages, members_answer, members_in, members_verdict}
+use Rattle.csdl.specs.Verdict.{instance_means, verdict}
 use Rattle.enumeration_members.proofs.check_members.Goals as goal
 
-pub check_30_and_31-requires : goal.check_30_and_31-requires
-check_30_and_31-requires c = (model_passes c.args.model.now _ _ _ c.check_rules-answer.ensures c.in-Accepted.is).kept1
+pub returns-in_err-read : goal.returns-in_err-read
+unfolding members_answer instance_means
+returns-in_err-read c = let p = err_from_is_err_and c.from_residual.result c.from_residual.ensures.1 in rw (p.1, p.2) (c.in_err-read.ensures.value _)
 
-pub returns-in-Accepted : goal.returns-in-Accepted
+pub returns : goal.returns
 unfolding members_answer
-returns-in-Accepted c = c.check_30_and_31.ensures ∙ sym (then_on c.args.model.now _ (model_passes c.args.model.now _ _ _ c.check_rules-answer.ensures c.in-Accepted.is))
-
-pub returns-in-Refused : goal.returns-in-Refused
-unfolding members_answer members_means
-returns-in-Refused c = sym (model_stops c.args.model.now _ _ _ _ _ c.check_rules-answer.ensures c.in-Refused.is)
+returns c =
+    let each : instance_means c.check_30_and_31.result ≡ verdict 0 (image_stages c.args.members.now) (members_verdict (model_in c.args.model.now) (members_in c.args.members.now)) =
+    rw (← c.in_ok-read.ensures.model) c.check_30_and_31.ensures in
+    each ∙ c.in_ok-read.ensures.value _

@@ -1,15 +1,8 @@
-use borrow.Author.Rules.{rules}
-use Rattle.csdl.proofs.Loops.{first}
+use Rattle.std.proofs.Common.{◌+◌, refl, rules, tests}
+use Rattle.csdl.specs.Climb.{climb}
+use Rattle.csdl.proofs.Chains.{first_by_find}
+use Rattle.instance_containment.specs.Graph.{entry}
 use Rattle.instance_containment.proofs.first_by_climbs.Goals as goal
 
-pub loop-w-init : goal.loop-w-init
-loop-w-init c = (search first, search rules)
-
-pub returns-then-climbs : goal.returns-then-climbs
-returns-then-climbs c = (search first, search rules)
-
-pub loop-w-preserved : goal.loop-w-preserved
-loop-w-preserved c = (search first, search rules)
-
-pub returns : goal.returns
-returns c = (search first, search rules)
+pub returns-clause-value : goal.returns-clause-value
+returns-clause-value c = first_by_find _ (λ w. climb (entry c.args.holders.now) (c.args.n + 1) w w) _ refl c.find.ensures.ran (λ x b q k. search (rules, tests))

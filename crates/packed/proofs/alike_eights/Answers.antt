@@ -1,13 +1,22 @@
-use mathlib.Core.Path.{sym, ◌∙◌}
 use native.Mathlib.Omega.{arith}
-use Rattle.packed.proofs.Laws.{common_more}
-use borrow.Author.Rules.{rules}
+use mathlib.Core.Path.{◌≡◌}
+use mathlib.Core.Bool.{true}
+use Prim.Native.Nat.{◌*◌}
+use Rattle.std.proofs.Common.{rules, tests}
+use Rattle.std.specs.Bool.{⊤}
+use Rattle.std.proofs.lemmas.Iterator.{first_from_Range}
+use Rattle.packed.specs.Bytes.{same, part}
+use Rattle.packed.proofs.Laws.{alike_to}
 use Rattle.packed.proofs.alike_eights.Goals as goal
 
-pub loop-i-init : goal.loop-i-init
-loop-i-init c = (search rules, search rules, search rules, search rules)
+pub overflow_mul-result : goal.overflow_mul-result
+overflow_mul-result c =
+    let e = alike_to c.args.a.now c.args.b.now c.args.n c.requires.0 c.requires.1 _
+    (first_from_Range _ _ _ _ (λ k. ⊤) (λ k. same (part c.args.a.now (8 * k) 8) (part c.args.b.now (8 * k) 8) ≡ true) c.find-alike.ensures.ran (λ x q k. tt) (λ x q k. search (rules, tests))) in
+    record { fits = omega (arith, e.0, c.unwrap_or.ensures) }
 
-pub loop-i-preserved : goal.loop-i-preserved
-loop-i-preserved c = let e = sym c.same_eight.ensures ∙ c.if-same_eight.true in
-    let more = common_more c.args.a.now c.args.b.now c.loop-i.i 8 (omega arith) (omega arith) e in
-    (search rules, search rules, search rules, omega (arith, c.loop-i.invariant.3, more))
+pub returns : goal.returns
+returns c =
+    rw c.unwrap_or.ensures
+    (alike_to c.args.a.now c.args.b.now c.args.n c.requires.0 c.requires.1 _
+    (first_from_Range _ _ _ _ (λ k. ⊤) (λ k. same (part c.args.a.now (8 * k) 8) (part c.args.b.now (8 * k) 8) ≡ true) c.find-alike.ensures.ran (λ x q k. tt) (λ x q k. search (rules, tests))))

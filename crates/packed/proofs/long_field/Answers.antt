@@ -11,10 +11,10 @@ unfolding field_of
 loop-done-init c = search rules
 
 pub loop-done-preserved : goal.loop-done-preserved
-loop-done-preserved c = let m = 32 - c.in_byte-room.result - c.least-n.result in
-    let e : c.joined-r.result ≡ field_of c.args.s.now c.args.off (c.loop-done.done + c.least-n.result) =
+loop-done-preserved c = let m = 32 - c.in_byte-room.result - c.min-n.result in
+    let e : c.joined-r.result ≡ field_of c.args.s.now c.args.off (c.loop-done.done + c.min-n.result) =
     rw (c.joined-r.ensures, c.low_bits-bits.ensures.0, c.word_at.ensures, c.loop-done.invariant.1)
-    (field_more c.args.s.now c.args.off c.loop-done.done c.least-n.result m (omega arith)) in
+    (field_more c.args.s.now c.args.off c.loop-done.done c.min-n.result m (omega arith)) in
     (search rules, e, rw e (field_lt _ _ _))
 
 pub returns : goal.returns

@@ -1,9 +1,5 @@
-use mathlib.Core.Path.{sym}
-use Rattle.packed.proofs.Laws.{same_lengths, same_common}
+use Rattle.packed.proofs.Laws.{same_pointwise}
 use Rattle.packed.proofs.same_bytes.Goals as goal
 
-pub returns-then-a-b : goal.returns-then-a-b
-returns-then-a-b c = sym (same_lengths _ _ c.if-a-b.true)
-
 pub returns : goal.returns
-returns c = rw c.common_start.ensures (same_common _ _ c.if-a-b.false)
+returns c = rw c.eq.ensures (same_pointwise _ _)

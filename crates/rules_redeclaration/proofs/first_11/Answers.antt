@@ -1,15 +1,8 @@
-use Rattle.csdl.proofs.Loops.{first-start, first-hit, first_next, first_end}
-use native.Mathlib.Omega.{arith}
+use Rattle.csdl.specs.Properties as rules
+use Rattle.model_image.specs.Read.{model_read}
+use Rattle.std.proofs.Common.{rules, tests}
+use Rattle.csdl.proofs.Chains.{first_by_find}
 use Rattle.rules_redeclaration.proofs.first_11.Goals as goal
 
-pub loop-p-init : goal.loop-p-init
-loop-p-init c = first-start _ _
-
-pub returns-then-property_11 : goal.returns-then-property_11
-returns-then-property_11 c = rw (← c.property_count-n.ensures.0) (first-hit _ _ _ _ c.loop-p.invariant c.loop-p-test.true c.property_11.ensures c.if-property_11.true)
-
-pub loop-p-preserved : goal.loop-p-preserved
-loop-p-preserved c = first_next _ _ _ _ c.loop-p.invariant c.loop-p-test.true c.property_11.ensures c.if-property_11.false
-
 pub returns : goal.returns
-returns c = rw (← c.property_count-n.ensures.0) (first_end _ _ _ c.loop-p.invariant (omega arith))
+returns c = first_by_find _ (λ p. rules.property11 (model_read c.args.lookup.now.hierarchy.model) p) _ c.property_count.ensures.0 c.find.ensures.ran (λ x b q k. search (rules, tests))

@@ -1,38 +1,50 @@
+use borrow.Author.Tests.{ne_eqb}
 use Rattle.csdl.specs.Walk.{path_chosen}
+use Rattle.model_image.specs.Read.{model_read}
+use Rattle.walk_path.proofs.Choices.{other}
 use Rattle.walk_path.proofs.path_chosen.Goals as goal
 
-pub returns-in-OfSchema : goal.returns-in-OfSchema
+pub returns-in-OfProperty-eq0 : goal.returns-in-OfProperty-eq0
 unfolding path_chosen
-returns-in-OfSchema c = rw c.in-OfSchema.is
+returns-in-OfProperty-eq0 c = rw (c.in-OfProperty-eq0.is-0, c.in-OfProperty-eq0.is-1) c.if_present.ensures
 
-pub returns-in-OfType : goal.returns-in-OfType
+pub returns-in-OfKey-eq0 : goal.returns-in-OfKey-eq0
 unfolding path_chosen
-returns-in-OfType c = rw c.in-OfType.is
+returns-in-OfKey-eq0 c = rw (c.in-OfKey-eq0.is-0, c.in-OfKey-eq0.is-1) c.if_present-in-OfKey-eq0.ensures
 
-pub returns-in-OfProperty : goal.returns-in-OfProperty
+pub returns-in-OfConstraint-eq0 : goal.returns-in-OfConstraint-eq0
 unfolding path_chosen
-returns-in-OfProperty c = rw c.in-OfProperty.is c.only_path.ensures
+returns-in-OfConstraint-eq0 c = rw (c.in-OfConstraint-eq0.is-0, c.in-OfConstraint-eq0.is-1) c.if_present-in-OfConstraint-eq0.ensures
 
-pub returns-in-OfKey : goal.returns-in-OfKey
+pub returns-in-OfConstraint-eq1 : goal.returns-in-OfConstraint-eq1
 unfolding path_chosen
-returns-in-OfKey c = rw c.in-OfKey.is c.only_path-in-OfKey.ensures
+returns-in-OfConstraint-eq1 c = rw (c.in-OfConstraint-eq1.is-0, c.in-OfConstraint-eq1.is-1) c.if_present-in-OfConstraint-eq1.ensures
 
-pub returns-in-OfConstraint : goal.returns-in-OfConstraint
+pub returns-in-OfBinding-eq0 : goal.returns-in-OfBinding-eq0
 unfolding path_chosen
-returns-in-OfConstraint c = rw c.in-OfConstraint.is c.one_of_two.ensures
+returns-in-OfBinding-eq0 c = rw (c.in-OfBinding-eq0.is-0, c.in-OfBinding-eq0.is-1) c.if_present-in-OfBinding-eq0.ensures
 
-pub returns-in-OfChild : goal.returns-in-OfChild
+pub returns-in-OfBinding-eq1 : goal.returns-in-OfBinding-eq1
 unfolding path_chosen
-returns-in-OfChild c = rw c.in-OfChild.is
+returns-in-OfBinding-eq1 c = rw (c.in-OfBinding-eq1.is-0, c.in-OfBinding-eq1.is-1) c.if_present-in-OfBinding-eq1.ensures
 
-pub returns-in-OfBinding : goal.returns-in-OfBinding
+pub returns-in_default : goal.returns-in_default
 unfolding path_chosen
-returns-in-OfBinding c = rw c.in-OfBinding.is c.one_of_two-in-OfBinding.ensures
+returns-in_default c = rw (c.in_default.is-0, ne_eqb _ _ c.in_default.is-1.1)
 
-pub returns-in-OfSegment : goal.returns-in-OfSegment
+pub returns-in_default-2 : goal.returns-in_default-2
 unfolding path_chosen
-returns-in-OfSegment c = rw c.in-OfSegment.is
+returns-in_default-2 c = rw (c.in_default.is-0, ne_eqb _ _ c.in_default.is-1.1)
 
-pub returns-in-Nowhere : goal.returns-in-Nowhere
+pub returns-in_default-3 : goal.returns-in_default-3
 unfolding path_chosen
-returns-in-Nowhere c = rw c.in-Nowhere.is
+returns-in_default-3 c = rw (c.in_default.is-0, ne_eqb _ _ c.in_default.is-1.0.1, ne_eqb _ _ c.in_default.is-1.1)
+
+pub returns-in_default-4 : goal.returns-in_default-4
+unfolding path_chosen
+returns-in_default-4 c = rw (c.in_default.is-0, ne_eqb _ _ c.in_default.is-1.0.1, ne_eqb _ _ c.in_default.is-1.1)
+
+pub returns-in_default-5 : goal.returns-in_default-5
+returns-in_default-5 c =
+    other (model_read c.args.model.now) c.args.path c.args.rec c.in_default.not-OfProperty-0 c.in_default.not-OfKey-0 c.in_default.not-OfConstraint-0
+    c.in_default.not-OfBinding-0

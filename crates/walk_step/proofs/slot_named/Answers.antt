@@ -1,22 +1,28 @@
+use mathlib.Core.Path.{◌≡◌}
 use native.Mathlib.Omega.{arith}
-use mathlib.Core.Path.{◌∙◌}
-use Rattle.walk_step.proofs.Named.{seek_start, seek_hit, seek_next, seek_end, search_is, search_past}
+use Prim.Native.Nat.{◌+◌, ◌-◌, ◌<◌}
 use borrow.Author.Rules.{rules}
+use Rattle.packed.specs.Bytes.{same}
+use Rattle.csdl.specs.Model.{property_text}
+use Rattle.csdl.specs.Walk.{slot_named}
+use Rattle.instance_image.specs.Read.{instance_read}
+use Rattle.model_image.specs.Read.{model_read}
+use Rattle.walk_step.proofs.Named.{run_by_find, none_past}
 use Rattle.walk_step.proofs.slot_named.Goals as goal
 
-pub returns-then-v-ge256 : goal.returns-then-v-ge256
-returns-then-v-ge256 c = search_past c.args.properties.now c.args.names.now c.args.nodes.now c.args.slots.now c.args.name.now c.args.v c.requires c.if-v-ge256.true
+pub returns-in-Ok : goal.returns-in-Ok
+unfolding slot_named
+returns-in-Ok c =
+    let m = model_read c.args.model.now in
+    let i = instance_read c.args.instance.now in
+    let run = c.node_slots-run.result in
+    let n : run.first + run.count - run.first ≡ run.count = omega arith in
+    rw (← c.in-Ok.ensures.1, ← c.node_slots-run.ensures.0, ← c.node_slots-run.ensures.1)
+    (run_by_find _ (λ s. same (property_text m (i.slot_property s)) c.args.name.now) run.count n c.find.ensures.ran (λ x b q k. search rules))
 
-pub loop-j-init : goal.loop-j-init
-loop-j-init c = (seek_start _ _ _, search rules)
-
-pub returns-then-has_name : goal.returns-then-has_name
-returns-then-has_name c = seek_hit _ _ _ _ c.loop-j.invariant.0 _ c.loop-j-test.true c.has_name.ensures c.if-has_name.true
-    ∙ rw (c.node_slots-run.ensures.0, c.node_slots-run.ensures.1) (search_is c.args.properties.now c.args.names.now c.args.nodes.now c.args.slots.now c.args.name.now c.args.v)
-
-pub loop-j-preserved : goal.loop-j-preserved
-loop-j-preserved c = (seek_next _ _ _ _ c.loop-j.invariant.0 _ c.loop-j-test.true c.has_name.ensures c.if-has_name.false, c.loop-j.invariant.1)
-
-pub returns : goal.returns
-returns c = seek_end _ _ _ _ c.loop-j.invariant.0 (omega arith)
-    ∙ rw (c.node_slots-run.ensures.0, c.node_slots-run.ensures.1) (search_is c.args.properties.now c.args.names.now c.args.nodes.now c.args.slots.now c.args.name.now c.args.v)
+pub returns-in-Err : goal.returns-in-Err
+unfolding instance_read
+returns-in-Err c =
+    let i = c.args.instance.now in
+    let no : c.args.v < 65536 → ⊥ = c.in-Err.ensures in
+    none_past (model_read c.args.model.now) i.nodes.now i.slots.now i.items.now c.args.name.now c.args.v i.few_nodes (omega (arith, no))

@@ -1,13 +1,11 @@
-use mathlib.Core.Path.{ap₂, ◌∙◌}
-use Rattle.csdl.specs.Search.{place_found}
-use Rattle.instance_check.proofs.Stages.{in_24}
+use Rattle.csdl.specs.Conforms.{slot24}
+use Rattle.instance_image.specs.Read.{instance_read}
+use Rattle.model_image.specs.Read.{model_read}
+use Rattle.instance_check.specs.Stages.{lowest_instance_place}
+use Rattle.instance_check.proofs.Placed.{slot_placed}
 use Rattle.instance_check.proofs.rules.lowest_24.Goals as goal
 
-pub slots_place-requires : goal.slots_place-requires
-slots_place-requires c = c.requires.sized
-
-pub first_24-requires : goal.first_24-requires
-first_24-requires c = rw c.slots_of.ensures c.requires.sized.slots_length
-
 pub returns : goal.returns
-returns c = in_24 c.args.model.now c.args.instance.now _ (c.place_found.ensures ∙ ap₂ place_found c.slots_place.ensures.0 (rw (c.properties_of.ensures.0, c.slots_of.ensures) at c.first_24.ensures.0))
+unfolding lowest_instance_place
+returns c = let i = instance_read c.args.instance.now in
+    slot_placed i (λ s. slot24 (model_read c.args.model.now) i s) c.slots_at.ensures.0 c.first_24.ensures.value c.place_in.ensures

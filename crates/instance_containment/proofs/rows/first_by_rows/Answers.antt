@@ -1,6 +1,6 @@
-use borrow.Author.Rules.{rules}
+use Rattle.csdl.specs.Search.{found}
 use Prim.Native.Nat.{ℕ, ◌<◌}
-use mathlib.Core.Path.{sym, ap, ◌∙◌}
+use mathlib.Core.Path.{ap, ◌∙◌}
 use mathlib.Core.Bool.{Bool, ◌||◌}
 use native.Mathlib.Omega.{arith}
 use lib.Dec.{ltb}
@@ -11,26 +11,18 @@ use Rattle.instance_containment.specs.Rows.{in_row}
 use Rattle.csdl.proofs.Reaching.{reaches_same}
 use Rattle.instance_containment.proofs.rows.first_by_rows.Goals as goal
 
-pub slice_bounds-close_rows-end : goal.slice_bounds-close_rows-end
-slice_bounds-close_rows-end c = sym c.step_rows-rows.ensures.size
-
 pub close_rows-requires : goal.close_rows-requires
 close_rows-requires c = (c.step_rows-rows.ensures.size, c.requires)
-
-pub slice_bounds-first_in_rows-end : goal.slice_bounds-first_in_rows-end
-slice_bounds-first_in_rows-end c = sym c.close_rows.ensures.size
 
 pub first_in_rows-requires : goal.first_in_rows-requires
 first_in_rows-requires c = (c.close_rows.ensures.size, c.requires)
 
-pub returns : goal.returns
+pub returns-clause-value : goal.returns-clause-value
 unfolding within_in
-returns c = let step : ℕ → ℕ → Bool = step_in (node_in c.args.item_slots.now c.args.slot_nodes.now) (entry c.args.to.now) c.args.c in (
-  c.first_in_rows.ensures.0
-      ∙ first-same _ _ 0 c.args.n
-      (λ w l h.
-      let m : w < c.args.n = omega (arith, h) in
-      ap (λ (x : Bool). ltb 1 (get_or c.args.times.now w 0) || x)
-      (c.close_rows.ensures.row w w m m ∙ reaches_same (in_row c.step_rows-rows.result) step c.args.n (λ v u i j. c.step_rows-rows.ensures.row v u (omega (arith, c.requires)) (omega (arith, c.requires))) w w m)),
-  search rules,
-)
+returns-clause-value c = let step : ℕ → ℕ → Bool = step_in (node_in c.args.item_slots.now c.args.slot_nodes.now) (entry c.args.to.now) c.args.c in
+    c.first_in_rows.ensures.value
+    ∙ ap found (first-same _ _ 0 c.args.n
+    (λ w l h.
+    let m : w < c.args.n = omega (arith, h) in
+    ap (λ (x : Bool). ltb 1 (get_or c.args.times.now w 0) || x)
+    (c.close_rows.ensures.row w w m m ∙ reaches_same (in_row c.step_rows-rows.result) step c.args.n (λ v u i j. c.step_rows-rows.ensures.row v u (omega (arith, c.requires)) (omega (arith, c.requires))) w w m)))

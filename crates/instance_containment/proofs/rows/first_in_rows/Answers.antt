@@ -1,15 +1,7 @@
-use borrow.Author.Rules.{rules}
-use Rattle.csdl.proofs.Loops.{first, first-hit, first_next}
+use Rattle.std.proofs.Common.{◌||◌, ltb, get_or, refl, rules, tests}
+use Rattle.csdl.proofs.Chains.{first_by_find}
+use Rattle.instance_containment.specs.Rows.{in_row}
 use Rattle.instance_containment.proofs.rows.first_in_rows.Goals as goal
 
-pub loop-w-init : goal.loop-w-init
-loop-w-init c = (search first, search rules, search rules)
-
-pub returns-then-read_at-in_row : goal.returns-then-read_at-in_row
-returns-then-read_at-in_row c = (first-hit _ _ c.loop-w.w _ c.loop-w.invariant.0 c.loop-w-test.true (rw (c.read_at.ensures, c.in_row.ensures)) c.if-read_at-in_row.true, search rules)
-
-pub loop-w-preserved : goal.loop-w-preserved
-loop-w-preserved c = (first_next _ _ c.loop-w.w _ c.loop-w.invariant.0 c.loop-w-test.true (rw (c.read_at.ensures, c.in_row.ensures)) c.if-read_at-in_row.false, search rules, search rules)
-
-pub returns : goal.returns
-returns c = (search first, search rules)
+pub returns-clause-value : goal.returns-clause-value
+returns-clause-value c = first_by_find _ (λ w. ltb 1 (get_or c.args.times.now w 0) || in_row c.args.rows.now w w) _ refl c.find.ensures.ran (λ x b q k. search (rules, tests))

@@ -1,19 +1,8 @@
-use Rattle.csdl.proofs.Loops.{first}
-use borrow.Author.Rules.{rules}
-use Rattle.instance_runs.proofs.Fills.{tabulates}
+use Rattle.std.proofs.Common.{rules, tests}
+use Rattle.csdl.specs.Conforms.{item21c}
+use Rattle.csdl.proofs.Chains.{first_by_find}
+use Rattle.instance_image.specs.Read.{instance_read}
 use Rattle.instance_runs.proofs.form.first_item_21.Goals as goal
 
-pub loop-k-init : goal.loop-k-init
-loop-k-init c = (search first, search rules)
-
-pub item_21-requires : goal.item_21-requires
-item_21-requires c = (search rules, tabulates _ _ _ c.slots_with-uses.ensures)
-
-pub returns-then-item_21 : goal.returns-then-item_21
-returns-then-item_21 c = (rw (← c.item_count-n.ensures.0) (search first), search rules)
-
-pub loop-k-preserved : goal.loop-k-preserved
-loop-k-preserved c = (search first, search rules)
-
-pub returns : goal.returns
-returns c = (rw (← c.item_count-n.ensures.0) (search first), search rules)
+pub returns-clause-value : goal.returns-clause-value
+returns-clause-value c = first_by_find _ (λ k. item21c (instance_read c.args.instance.now) k) _ c.item_count.ensures.0 c.find.ensures.ran (λ x b q k. search (rules, tests))

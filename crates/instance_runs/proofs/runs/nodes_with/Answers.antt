@@ -1,23 +1,12 @@
-use Prim.Native.Nat.{◌-◌}
-use mathlib.Core.Path.{refl}
-use native.Mathlib.Omega.{arith}
-use borrow.Author.Rules.{rules}
-use Rattle.csdl.specs.Instance.{instance_of, node_count, node_slots_in}
+use Rattle.std.proofs.Common.{rules, tests, ◌+◌}
 use Rattle.csdl.specs.Conforms.{nodes_with}
-use Rattle.instance_runs.proofs.Fills.{count_none, count_down, count-all, is_table}
+use Rattle.instance_image.specs.Read.{instance_read}
+use Rattle.instance_runs.specs.Tables.{to_two}
+use Rattle.instance_runs.proofs.Fills.{count_left, tabulates-same}
 use Rattle.instance_runs.proofs.runs.nodes_with.Goals as goal
 
-pub loop-v-init : goal.loop-v-init
-loop-v-init c = (search rules, search rules, count_none _ _ _ _ (omega arith))
-
-pub loop-v-preserved : goal.loop-v-preserved
-loop-v-preserved c = (
-  search rules,
-  search rules,
-  count_down (λ u. node_slots_in c.args.nodes.now u) (node_count c.args.nodes.now) 1024 (c.loop-v.v - 1) c.loop-v.v _ _ (omega arith) c.node_slots-run.ensures.0 c.node_slots-run.ensures.1 c.loop-v.array c.add_run.new.array (omega arith)
-      c.loop-v.invariant.2 c.add_run.ensures,
-)
-
 pub returns : goal.returns
-unfolding instance_of nodes_with
-returns c = is_table _ _ _ (count-all _ _ _ c.loop-v.v _ _ (omega arith) (λ k. refl) c.loop-v.invariant.2)
+unfolding nodes_with
+returns c =
+    let run = (instance_read c.args.instance.now).node_slots in
+    tabulates-same _ (c.over_runs.ensures run (λ v x. to_two (x + 1)) (λ v r h p. search (rules, tests)) (λ v x y h p. search (rules, tests))) (λ k. rw c.node_count.ensures.0 (count_left run k _ 0))

@@ -1,15 +1,9 @@
-use Rattle.csdl.proofs.Loops.{first}
-use borrow.Author.Rules.{rules}
+use Rattle.std.proofs.Common.{rules, tests}
+use Rattle.csdl.specs.Conforms.{node22}
+use Rattle.csdl.proofs.Chains.{first_by_find}
+use Rattle.instance_image.specs.Read.{instance_read}
+use Rattle.model_image.specs.Read.{model_read}
 use Rattle.instance_values.proofs.rules.first_22.Goals as goal
 
-pub loop-v-init : goal.loop-v-init
-loop-v-init c = (search first, search rules, search rules)
-
-pub returns-then-node_22 : goal.returns-then-node_22
-returns-then-node_22 c = (rw (← c.node_count-n.ensures.0) (search first), search rules)
-
-pub loop-v-preserved : goal.loop-v-preserved
-loop-v-preserved c = (search first, search rules, search rules)
-
-pub returns : goal.returns
-returns c = (rw (← c.node_count-n.ensures.0) (search first), search rules)
+pub returns-clause-value : goal.returns-clause-value
+returns-clause-value c = first_by_find _ (λ k. node22 (model_read c.args.model.now) (instance_read c.args.instance.now) k) _ c.node_count.ensures.0 c.find.ensures.ran (λ x b q k. search (rules, tests))

@@ -1,15 +1,9 @@
-use Rattle.csdl.proofs.Loops.{first}
-use borrow.Author.Rules.{rules}
+use Rattle.std.proofs.Common.{rules, tests}
+use Rattle.csdl.specs.Conforms.{slot24}
+use Rattle.csdl.proofs.Chains.{first_by_find}
+use Rattle.instance_image.specs.Read.{instance_read}
+use Rattle.model_image.specs.Read.{model_read}
 use Rattle.instance_values.proofs.rules.first_24.Goals as goal
 
-pub loop-s-init : goal.loop-s-init
-loop-s-init c = (search first, search rules)
-
-pub returns-then-slot_24 : goal.returns-then-slot_24
-returns-then-slot_24 c = (rw (← c.slot_count-n.ensures.0) (search first), search rules)
-
-pub loop-s-preserved : goal.loop-s-preserved
-loop-s-preserved c = (search first, search rules)
-
-pub returns : goal.returns
-returns c = (rw (← c.slot_count-n.ensures.0) (search first), search rules)
+pub returns-clause-value : goal.returns-clause-value
+returns-clause-value c = first_by_find _ (λ k. slot24 (model_read c.args.model.now) (instance_read c.args.instance.now) k) _ c.slot_count.ensures.0 c.find.ensures.ran (λ x b q k. search (rules, tests))

@@ -1,38 +1,32 @@
-use native.Mathlib.Omega.{arith}
+use Rattle.std.proofs.Common.{arith}
 use Rattle.instance_values.proofs.Slotted.{slotted_start, slotted_past, slotted_wrong, slotted_more, slotted_end}
 use Rattle.instance_values.proofs.slots.unlike_run.Goals as goal
 use Rattle.instance_values.proofs.slots.unlike_run.Goals.{then-p-n+else-in_wide, else-p-n}
 
-pub loop-done-init : goal.loop-done-init
-loop-done-init c = (c.requires.4, c.requires.1, slotted_start _ _ _ _ _ _ _ _, c.requires.0, c.requires.2, c.requires.3)
+pub loop-k-init : goal.loop-k-init
+loop-k-init c = slotted_start _ c.args.rows.now c.args.from _ _ c.requires.1
 
 pub in_wide-requires : goal.in_wide-requires
-in_wide-requires c = (c.slot_property-p.ensures.1, c.loop-done.invariant.3)
+in_wide-requires c = (c.slot_property-p.ensures.1, c.requires.0)
 
 pub in_wide-requires-then-p-n : goal.in_wide-requires-then-p-n
-in_wide-requires-then-p-n c = (c.slot_property-p.ensures.1, omega (arith, c.loop-done.invariant.2.size))
+in_wide-requires-then-p-n c = (c.slot_property-p.ensures.1, omega (arith, c.loop-k.invariant.size))
 
 pub returns-then-in_wide : goal.returns-then-in_wide
-returns-then-in_wide c = slotted_wrong _ _ _ _ _ _ _ _ _ _ c.loop-done.invariant.2 c.loop-done-test.true _ c.slot_property-p.ensures.0 c.if-p-n.true _ _ c.in_wide.ensures c.in_wide-then-p-n.ensures c.if-in_wide.true
+returns-then-in_wide c = slotted_wrong _ _ _ _ _ c.requires.1 _ _ c.loop-k.invariant c.loop-k-test.true _ c.slot_property-p.ensures.0 c.if-p-n.true _ _ c.in_wide.ensures c.in_wide-then-p-n.ensures c.if-in_wide.true
 
 pub with_wide-next-requires : goal.with_wide-next-requires
-with_wide-next-requires c = (c.loop-done.invariant.2.size, c.slot_property-p.ensures.1)
+with_wide-next-requires c = (c.loop-k.invariant.size, c.slot_property-p.ensures.1)
 
-pub loop-done-preserved : goal.loop-done-preserved
-loop-done-preserved c = (
-  c.loop-done.invariant.0,
-  c.loop-done.invariant.1,
-  elim c.if-p-n.branch [
-    | then-p-n+else-in_wide w ↦ rw w.seen-is (slotted_more _ _ _ _ _ _ _ _ _ _ c.loop-done.invariant.2 c.loop-done-test.true _ c.slot_property-p.ensures.0 w.if-p-n.true _ _ w.in_wide.ensures w.in_wide-then-p-n.ensures w.if-in_wide.false _ w.with_wide-next.ensures.0 w.with_wide-next.ensures.1)
-    | else-p-n w ↦ rw w.seen-is (slotted_past _ _ _ _ _ _ _ _ _ _ c.loop-done.invariant.2 c.loop-done-test.true _ c.slot_property-p.ensures.0 w.if-p-n.false)
-  ],
-  c.loop-done.invariant.3,
-  c.loop-done.invariant.4,
-  c.loop-done.invariant.5,
-)
+pub loop-k-preserved : goal.loop-k-preserved
+loop-k-preserved c =
+    elim c.if-p-n.branch [
+      | then-p-n+else-in_wide w ↦ rw w.seen-is (slotted_more _ c.args.rows.now c.args.from _ _ c.requires.1 _ _ c.loop-k.invariant c.loop-k-test.true _ c.slot_property-p.ensures.0 w.if-p-n.true _ _ w.in_wide.ensures w.in_wide-then-p-n.ensures w.if-in_wide.false _ w.with_wide-next.ensures.0 w.with_wide-next.ensures.1)
+      | else-p-n w ↦ rw w.seen-is (slotted_past _ c.args.rows.now c.args.from _ _ c.requires.1 _ _ c.loop-k.invariant c.loop-k-test.true _ c.slot_property-p.ensures.0 w.if-p-n.false)
+    ]
 
 pub unlike-requires : goal.unlike-requires
-unlike-requires c = (c.loop-done.invariant.2.size, c.loop-done.invariant.3)
+unlike-requires c = (c.loop-k.invariant.size, c.requires.0)
 
 pub returns : goal.returns
-returns c = slotted_end _ _ _ _ _ _ _ _ _ _ (omega arith) c.loop-done.invariant.2 _ c.unlike.ensures
+returns c = slotted_end _ _ _ _ _ c.requires.1 _ _ c.requires.4 (omega arith) c.loop-k.invariant _ c.unlike.ensures

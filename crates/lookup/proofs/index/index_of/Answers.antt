@@ -1,45 +1,51 @@
-use mathlib.Core.Path.{◌≡◌, refl, ◌∙◌}
-use native.Mathlib.Numerals.{add-one}
+use Prim.Native.Nat.{◌+◌, ◌-◌, ◌<◌}
+use lib.ListN.{get_or}
+use mathlib.Core.Path.{◌≡◌, refl}
 use native.Mathlib.Omega.{arith}
-use Rattle.lookup.proofs.Chain.{filled_start, filled_step, filled_past, entry_read, indexed, alike-start}
-use Rattle.name_classes.proofs.Ranks.{firsts_count, place-first}
-use borrow.Author.Rules.{rules}
+use Rattle.csdl.specs.Model.{model_of}
+use Rattle.model_image.specs.Read.{model_read}
+use Rattle.name_classes.proofs.Ranks.{few_properties}
+use Rattle.lookup.proofs.Chain.{filled_start, filled_more, filled_past, entry_read, indexed, alike-start}
 use Rattle.lookup.proofs.index.index_of.Goals as goal
+use Rattle.lookup.proofs.index.index_of.Goals.{In-loop-p}
+
+-- The entry of property p, which the loop reads, is that of the ranks.
+entry : (c : In-loop-p) → (get_or c.loop-p.index (512 + (c.loop-p.p - 1)) 0 ≡ get_or c.ranked-index.result (512 + (c.loop-p.p - 1)) 0) × (get_or c.loop-p.index (512 + (c.loop-p.p - 1)) 0 < 513)
+unfolding model_read model_of
+entry c =
+    let e : c.loop-p.p - 1 + 1 ≡ c.loop-p.p = omega arith in
+    entry_read c.args.model.now.properties.now c.args.model.now.names.now c.ranked-index.result c.loop-p.index c.loop-p.later (c.loop-p.p - 1) (few_properties c.args.model.now) (omega arith)
+    c.ranked-index.ensures.ranked (rw e c.loop-p.invariant)
 
 pub loop-p-init : goal.loop-p-init
-loop-p-init c = (search rules, search rules, c.ranked-index.ensures.ranked, rw c.property_count-p.ensures.0 (filled_start _ _ _ c.ranked-index.ensures.ranked.size))
-
-pub bounds-index-p : goal.bounds-index-p
-bounds-index-p c = omega (arith, c.loop-p.invariant.0, c.loop-p.invariant.1)
-
-pub overflow_cast-first-in-loop-p : goal.overflow_cast-first-in-loop-p
-overflow_cast-first-in-loop-p c = let r = entry_read c.args.properties.now c.args.names.now c.ranked-index.result c.loop-p.index c.loop-p.later c.loop-p.p c.loop-p.invariant.1 (omega arith) c.loop-p.invariant.0 c.loop-p.invariant.2 c.loop-p.invariant.3 in omega (arith, r.1)
-
-pub offset_bounds-later-first : goal.offset_bounds-later-first
-offset_bounds-later-first c = let r = entry_read c.args.properties.now c.args.names.now c.ranked-index.result c.loop-p.index c.loop-p.later c.loop-p.p c.loop-p.invariant.1 (omega arith) c.loop-p.invariant.0 c.loop-p.invariant.2 c.loop-p.invariant.3 in omega (arith, r.1)
+loop-p-init c = rw c.property_count-p.ensures.0 (filled_start _ _ _ c.ranked-index.ensures.ranked.size)
 
 pub bounds-later-first : goal.bounds-later-first
-bounds-later-first c = let r = entry_read c.args.properties.now c.args.names.now c.ranked-index.result c.loop-p.index c.loop-p.later c.loop-p.p c.loop-p.invariant.1 (omega arith) c.loop-p.invariant.0 c.loop-p.invariant.2 c.loop-p.invariant.3 in omega (arith, r.1, c.loop-p.invariant.3.places)
-
-pub bounds-index-p-in-loop-p : goal.bounds-index-p-in-loop-p
-bounds-index-p-in-loop-p c = omega (arith, c.loop-p.invariant.0, c.loop-p.invariant.1)
-
-pub offset_bounds-later-first-in-loop-p : goal.offset_bounds-later-first-in-loop-p
-offset_bounds-later-first-in-loop-p c = let r = entry_read c.args.properties.now c.args.names.now c.ranked-index.result c.loop-p.index c.loop-p.later c.loop-p.p c.loop-p.invariant.1 (omega arith) c.loop-p.invariant.0 c.loop-p.invariant.2 c.loop-p.invariant.3 in omega (arith, r.1)
+unfolding model_read model_of
+bounds-later-first c =
+    let e : c.loop-p.p - 1 + 1 ≡ c.loop-p.p = omega arith in
+    (entry_read c.args.model.now.properties.now c.args.model.now.names.now c.ranked-index.result c.loop-p.index c.loop-p.later (c.loop-p.p - 1) (few_properties c.args.model.now) (omega arith)
+    c.ranked-index.ensures.ranked (rw e c.loop-p.invariant)).1
 
 pub bounds-later-first-in-loop-p : goal.bounds-later-first-in-loop-p
-bounds-later-first-in-loop-p c = let r = entry_read c.args.properties.now c.args.names.now c.ranked-index.result c.loop-p.index c.loop-p.later c.loop-p.p c.loop-p.invariant.1 (omega arith) c.loop-p.invariant.0 c.loop-p.invariant.2 c.loop-p.invariant.3 in omega (arith, r.1, c.loop-p.invariant.3.places)
-
-pub bounds-index-b : goal.bounds-index-b
-bounds-index-b c = omega (arith, c.loop-p.invariant.3.size, c.bucket_of-b.ensures)
+bounds-later-first-in-loop-p c = (entry (goal.at.bounds-later-first-in-loop-p c).In-loop-p).1
 
 pub loop-p-preserved : goal.loop-p-preserved
-loop-p-preserved c = let r = entry_read c.args.properties.now c.args.names.now c.ranked-index.result c.loop-p.index c.loop-p.later c.loop-p.p c.loop-p.invariant.1 (omega arith) c.loop-p.invariant.0 c.loop-p.invariant.2 c.loop-p.invariant.3 in (search rules, c.loop-p.invariant.1, c.loop-p.invariant.2, filled_past _ _ _ _ _ _ _ _ c.loop-p.invariant.1 (omega arith) (filled_step _ _ _ _ _ _ _ c.loop-p.invariant.1 (omega arith) c.loop-p.invariant.0 r.0 r.1 c.loop-p.invariant.3))
+loop-p-preserved c =
+    let r = entry (goal.at.loop-p-preserved c).In-loop-p in
+    let e : c.loop-p.p - 1 + 1 ≡ c.loop-p.p = omega arith in
+    let few = few_properties c.args.model.now in
+    filled_past _ _ _ _ _ _ _ _ few (omega arith) (filled_more _ _ _ _ _ _ _ few (omega arith) r.0 r.1 (rw e c.loop-p.invariant))
 
-pub returns : goal.returns
-returns c = let e : c.loop-p.p ≡ 0 = omega arith in let x = indexed _ _ _ _ _ c.loop-p.invariant.1 c.loop-p.invariant.2 (rw e at c.loop-p.invariant.3) in let r = x.ranked in record {
-  indexed = x;
-  result_value = firsts_count _ _ _ _ r;
-  by_index = λ i h. add-one _ ∙ place-first _ _ _ _ r i h;
-  by_index_2 = λ p h. (alike-start _ _ _ x p h _ refl, x.next p h);
-}
+pub returns-clause-indexed : goal.returns-clause-indexed
+unfolding model_read model_of
+returns-clause-indexed c =
+    let e : c.loop-p.p ≡ 0 = omega arith in
+    indexed _ _ _ _ _ (few_properties c.args.model.now) c.ranked-index.ensures.ranked (rw e at c.loop-p.invariant)
+
+pub returns-clause-by_index_2 : goal.returns-clause-by_index_2
+unfolding model_read model_of
+returns-clause-by_index_2 c =
+    let e : c.loop-p.p ≡ 0 = omega arith in
+    let x = indexed _ _ _ _ _ (few_properties c.args.model.now) c.ranked-index.ensures.ranked (rw e at c.loop-p.invariant) in
+    λ p h. (alike-start _ _ _ x p h _ refl, x.next p h)

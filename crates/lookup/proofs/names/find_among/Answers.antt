@@ -1,45 +1,45 @@
 use Prim.Native.Nat.{ℕ}
 use mathlib.Core.Path.{ap, ◌∙◌}
 use mathlib.Core.List.{List}
-use lib.ListN.{length, get_or}
+use lib.ListN.{get_or}
 use native.Mathlib.Omega.{arith}
-use Rattle.csdl.specs.Tables.{type_base, type_count}
+use Rattle.std.proofs.Common.{Some}
 use Rattle.csdl.specs.Model.{model_of}
-use Rattle.csdl.specs.Find.{find, own, declares}
+use Rattle.csdl.specs.Tables.{type_base, type_count}
+use Rattle.model_image.specs.Read.{model_read}
 use Rattle.type_hierarchy.specs.Near.{left_at, only}
-use Rattle.type_hierarchy.proofs.Climbing.{nearness_size, nearness_at}
-use Rattle.lookup.proofs.Found.{found_none}
-use Rattle.lookup.proofs.Looking.{on-start, on_below, on_less, looking_start, looking_end, looking_nearer, looking_farther}
+use Rattle.type_hierarchy.proofs.Climbing.{nearness_at}
+use Rattle.name_classes.proofs.Ranks.{few_properties}
+use Rattle.lookup.proofs.Found.{means}
+use Rattle.lookup.proofs.Looking.{Looking, on-start, on-reach, on_less, looking_start, looking_nearer, looking_farther}
 use Rattle.lookup.proofs.names.find_among.Goals as goal
-use Rattle.lookup.proofs.names.find_among.Goals.{then-near-left, else-near-left}
+use Rattle.lookup.proofs.names.find_among.Goals.{In-Some, then-near-left, else-near-left}
 
-pub returns-then-first-eq0 : goal.returns-then-first-eq0
-returns-then-first-eq0 c = found_none c.args.types.now c.args.properties.now c.args.names.now c.args.name.now c.args.index.now c.requires.4 (omega arith) c.args.t c.args.first c.requires.3 c.if-first-eq0.true
+-- The chain is at p.
+at_some : (c : In-Some) → Looking c.args.lookup.now c.args.name.now c.args.t (Some c.in-Some.p) c.loop-at.nearest c.loop-at.near
+at_some c = rw c.in-Some.is at c.loop-at.invariant
 
 pub loop-at-init : goal.loop-at-init
-loop-at-init c = (c.requires.4, looking_start _ _ _ _ _ _ _ _ _ (on-start _ _ _ _ c.requires.4 _ c.requires.3), omega arith, c.nearness_of-nearness.ensures)
-
-pub bounds-nearness-property_owner : goal.bounds-nearness-property_owner
-bounds-nearness-property_owner c = omega (arith, ap (λ (l : List ℕ). length l) c.loop-at.invariant.3 ∙ nearness_size _ _ _, c.property_owner.ensures.1)
+loop-at-init c = looking_start _ _ _ _ (on-start _ _ _ c.requires.1)
 
 pub next_alike-at-requires : goal.next_alike-at-requires
-next_alike-at-requires c = (c.loop-at.invariant.0.ranked.size, omega (arith, c.loop-at.invariant.2, on_below _ _ _ _ _ _ _ c.loop-at.invariant.1.on c.loop-at-test.true))
+unfolding model_read model_of
+next_alike-at-requires c = omega (arith, (on-reach _ _ _ _ (at_some (goal.at.next_alike-at-requires c).In-Some).on).below, few_properties c.args.lookup.now.hierarchy.model)
 
 pub loop-at-smaller : goal.loop-at-smaller
-loop-at-smaller c = on_less _ _ _ _ _ _ _ c.loop-at.invariant.1.on c.loop-at-test.true _ c.next_alike-at.ensures
+loop-at-smaller c = rw c.in-Some.is (on_less _ _ _ _ (at_some (goal.at.loop-at-smaller c).In-Some).on _ c.next_alike-at.ensures)
 
 pub loop-at-preserved : goal.loop-at-preserved
-loop-at-preserved c = let left = ap (λ (l : List ℕ). get_or l c.property_owner.result 0) c.loop-at.invariant.3 ∙ nearness_at _ _ _ c.property_owner.result (omega (arith, c.property_owner.ensures.1)) ∙ ap (λ (k : ℕ). left_at (only k) (λ u. type_base c.args.types.now u) (type_count c.args.types.now) c.args.t) c.property_owner.ensures.0 in (
-  c.loop-at.invariant.0,
-  elim c.if-near-left.branch [
-    | then-near-left w ↦ rw (w.found-is, w.near-is) (looking_nearer _ _ _ _ _ _ _ _ _ _ _ c.loop-at.invariant.1 c.loop-at-test.true _ c.next_alike-at.ensures _ left w.if-near-left.true)
-    | else-near-left w ↦ rw (w.found-is, w.near-is) (looking_farther _ _ _ _ _ _ _ _ _ _ _ c.loop-at.invariant.1 c.loop-at-test.true _ c.next_alike-at.ensures _ left w.if-near-left.false)
-  ],
-  c.loop-at.invariant.2,
-  c.loop-at.invariant.3,
-)
+unfolding model_read model_of
+loop-at-preserved c =
+    let s = at_some (goal.at.loop-at-preserved c).In-Some in
+    let left = ap (λ (l : List ℕ). get_or l c.property_owner.result 0) c.nearness_of-nearness.ensures
+    ∙ nearness_at _ _ _ c.property_owner.result (omega (arith, c.property_owner.ensures.1))
+    ∙ ap (λ (k : ℕ). left_at (only k) (λ u. type_base c.args.lookup.now.hierarchy.model.types.now u) (type_count c.args.lookup.now.hierarchy.model.types.now) c.args.t) c.property_owner.ensures.0 in
+    elim c.if-near-left.branch [
+      | then-near-left w ↦ rw (w.nearest-is, w.near-is) (looking_nearer _ _ _ _ _ _ s _ c.next_alike-at.ensures _ left w.if-near-left.true)
+      | else-near-left w ↦ rw (w.nearest-is, w.near-is) (looking_farther _ _ _ _ _ _ s _ c.next_alike-at.ensures _ left w.if-near-left.false)
+    ]
 
-pub returns : goal.returns
-unfolding model_of find own declares
-returns c = let near = looking_end _ _ _ _ _ _ _ _ _ _ _ c.loop-at.invariant.1 (omega arith) in
-    (near.is, omega (arith, near.most, c.loop-at.invariant.2))
+pub returns-clause-value : goal.returns-clause-value
+returns-clause-value c = means _ _ _ _ _ (rw c.in_default.is at c.loop-at.invariant)

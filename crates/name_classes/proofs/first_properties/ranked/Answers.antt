@@ -1,58 +1,59 @@
-use mathlib.Core.Path.{◌≡◌, sym, ◌∙◌}
+use Prim.Native.Nat.{ℕ}
+use mathlib.Core.Path.{◌≡◌, refl, sym, ◌∙◌}
+use mathlib.Core.List.{List}
 use native.Mathlib.Numerals.{add-one}
 use native.Mathlib.Omega.{arith}
-use Rattle.csdl.specs.Tables.{property_count}
-use Rattle.name_classes.proofs.Filling.{ranked-start, ranked_old, ranked_new, ranked_end}
-use Rattle.name_classes.proofs.Ranks.{firsts_count, place-first, entry_first}
 use borrow.Author.Rules.{rules}
+use Rattle.std.proofs.lemmas.List.{length-take-le}
+use Rattle.csdl.specs.Model.{model_of}
+use Rattle.model_image.specs.Read.{model_read}
+use Rattle.name_classes.specs.Classes.{name_of}
+use Rattle.name_classes.proofs.Filling.{ranked-start, ranked_old, ranked_new, ranked_end}
+use Rattle.name_classes.proofs.Options.{found_none, found_some}
+use Rattle.name_classes.proofs.Sorting.{sorted_part, stands_part, first_at_part}
+use Rattle.name_classes.proofs.Ranks.{whole, low_entries, firsts_count, place-first, entry_first}
 use Rattle.name_classes.proofs.first_properties.ranked.Goals as goal
-use Rattle.name_classes.proofs.first_properties.ranked.Goals.{then-first-eq0, else-first-eq0}
+use Rattle.name_classes.proofs.first_properties.ranked.Goals.{in-None, in-Some}
 
 pub loop-p-init : goal.loop-p-init
-loop-p-init c = (search rules, search rules, ranked-start _ 513)
+loop-p-init c = (search rules, ranked-start _ 513)
 
-pub slice_bounds-position-end : goal.slice_bounds-position-end
-slice_bounds-position-end c = sym c.loop-p.invariant.2.size
+pub slice_bounds-order-end : goal.slice_bounds-order-end
+slice_bounds-order-end c = sym (length-take-le _ _ (whole _ _ _ _ c.loop-p.invariant.1 (omega (arith, c.loop-p.invariant.0))))
 
 pub position-at-requires : goal.position-at-requires
-position-at-requires c = (omega (arith, c.loop-p.invariant.2.size, c.loop-p.invariant.2.most), omega (arith, c.loop-p.invariant.2.most), c.loop-p.invariant.2.sorted)
+position-at-requires c =
+    let name : ℕ → List ℕ = λ q. name_of c.args.model.now.properties.now c.args.model.now.names.now q in
+    let w = whole name _ _ _ c.loop-p.invariant.1 (omega (arith, c.loop-p.invariant.0)) in
+    (omega (arith, length-take-le _ _ w, c.loop-p.invariant.0, c.loop-p.invariant.1.most), sorted_part name _ _ w c.loop-p.invariant.1.sorted)
 
-pub slice_bounds-first_at-end : goal.slice_bounds-first_at-end
-slice_bounds-first_at-end c = sym c.loop-p.invariant.2.size
-
-pub first_at-first-requires : goal.first_at-first-requires
-first_at-first-requires c = (omega (arith, c.loop-p.invariant.2.size, c.loop-p.invariant.2.most), omega (arith, c.loop-p.invariant.2.most), λ i h. omega (arith, c.loop-p.invariant.2.below i h, c.loop-p.invariant.1))
-
-pub slice_bounds-insert-end : goal.slice_bounds-insert-end
-slice_bounds-insert-end c = sym c.loop-p.invariant.2.size
+pub first_at-requires : goal.first_at-requires
+first_at-requires c = low_entries _ _ _ _ c.loop-p.invariant.1 (omega (arith, c.loop-p.invariant.0))
 
 pub insert-requires : goal.insert-requires
-insert-requires c = (c.position-at.ensures.most, omega (arith, c.loop-p.invariant.2.size, c.loop-p.invariant.2.most))
-
-pub overflow_add-firsts : goal.overflow_add-firsts
-overflow_add-firsts c = omega (arith, c.loop-p.invariant.2.most)
-
-pub bounds-index-p : goal.bounds-index-p
-bounds-index-p c = omega (arith, c.insert.ensures.inserted.size, c.loop-p.invariant.2.size)
-
-pub bounds-index-p-else-first-eq0 : goal.bounds-index-p-else-first-eq0
-bounds-index-p-else-first-eq0 c = omega (arith, c.loop-p.invariant.2.size)
+insert-requires c = let w = whole _ _ _ _ c.loop-p.invariant.1 (omega (arith, c.loop-p.invariant.0)) in
+    (omega (arith, c.position-at.ensures.most, length-take-le _ _ w), omega (arith, c.loop-p.invariant.0, c.loop-p.invariant.1.size, c.loop-p.invariant.1.most))
 
 pub loop-p-preserved : goal.loop-p-preserved
-loop-p-preserved c = let e = rw c.property_text-name.ensures at c.first_at-first.ensures.0 in (
-  search rules,
-  search rules,
-  elim c.if-first-eq0.branch [
-    | then-first-eq0 w ↦ rw (w.index-is, w.firsts-is) (ranked_new _ _ _ _ c.loop-p.invariant.2 (omega arith) _ _ e w.if-first-eq0.true (rw c.property_text-name.ensures at c.position-at.ensures) _ w.insert.ensures.inserted)
-    | else-first-eq0 w ↦ rw (w.index-is, w.firsts-is) (ranked_old _ _ _ _ c.loop-p.invariant.2 (omega arith) _ _ e w.if-first-eq0.false)
-  ],
-)
-
-pub bounds-index-1536 : goal.bounds-index-1536
-bounds-index-1536 c = omega (arith, c.loop-p.invariant.2.size)
+unfolding model_read model_of
+loop-p-preserved c =
+    let name : ℕ → List ℕ = λ q. name_of c.args.model.now.properties.now c.args.model.now.names.now q in
+    let r = c.loop-p.invariant.1 in
+    let w = whole name _ _ _ r (omega (arith, c.loop-p.invariant.0)) in
+    let s = rw c.property_text-name.ensures at (stands_part name _ _ w _ _ c.position-at.ensures) in (
+      c.loop-p.invariant.0,
+      elim c.match-first_at.branch [
+        | in-None v ↦
+            let e = rw c.property_text-name.ensures at (sym (found_none _ (sym v.in-None.is ∙ c.first_at.ensures.value)) ∙ first_at_part name _ _ w _ _) in
+            rw (v.index-is, v.firsts-is, v.first-is) (ranked_new name _ _ _ r (omega arith) _ _ e refl s _ v.insert.ensures.inserted)
+        | in-Some v ↦
+            let e = rw c.property_text-name.ensures at (add-one _ ∙ sym (found_some _ _ (sym v.in-Some.is ∙ c.first_at.ensures.value)) ∙ first_at_part name _ _ w _ _) in
+            rw (v.index-is, v.firsts-is, v.first-is) (ranked_old name _ _ _ r (omega arith) _ _ e (λ z. omega (arith, z)))
+      ],
+    )
 
 pub returns : goal.returns
-returns c = let e : c.loop-p.p ≡ property_count c.args.properties.now = omega arith in let k = ranked_end _ _ _ _ (omega arith) (rw e at c.loop-p.invariant.2) in record {
+returns c = let e : c.loop-p.p ≡ (model_read c.args.model.now).properties = omega arith in let k = ranked_end _ _ _ _ (omega arith) (rw e at c.loop-p.invariant.1) in record {
   ranked = k;
   result_value = firsts_count _ _ _ _ k;
   by_index = λ i l. add-one _ ∙ place-first _ _ _ _ k i l;

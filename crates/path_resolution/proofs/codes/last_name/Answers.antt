@@ -1,17 +1,13 @@
-use mathlib.Core.Path.{refl, sym, ◌∙◌}
-use native.Mathlib.Omega.{arith}
-use Rattle.path_resolution.proofs.Last.{name-none, name-hit, name_miss}
-use borrow.Author.Rules.{rules}
+use mathlib.Core.Bool.{not}
+use mathlib.Core.Path.{sym, ◌∙◌}
+use Rattle.std.proofs.Common.{rules, tests, get_or}
+use Rattle.std.proofs.lemmas.Iterator.Adapters.{option_map_id}
+use Rattle.std.proofs.lemmas.Iterator.Search.{find_from_yields_List}
+use Rattle.path_resolution.specs.Resolution.{cast_code}
+use Rattle.path_resolution.proofs.Last.{yields_down, last_by_find}
 use Rattle.path_resolution.proofs.codes.last_name.Goals as goal
 
-pub loop-n-init : goal.loop-n-init
-loop-n-init c = (search rules, search rules, refl)
-
-pub returns-then-codes-n-lt32768 : goal.returns-then-codes-n-lt32768
-returns-then-codes-n-lt32768 c = (sym (c.loop-n.invariant.2 ∙ name-hit c.args.codes.now c.loop-n.n (omega arith) c.if-codes-n-lt32768.true), search rules)
-
-pub loop-n-preserved : goal.loop-n-preserved
-loop-n-preserved c = (search rules, search rules, c.loop-n.invariant.2 ∙ name_miss c.args.codes.now c.loop-n.n (omega arith) c.if-codes-n-lt32768.false)
-
-pub returns : goal.returns
-returns c = (sym (c.loop-n.invariant.2 ∙ name-none c.args.codes.now c.loop-n.n (omega arith)), search rules)
+pub returns-clause-value : goal.returns-clause-value
+returns-clause-value c = sym (option_map_id c.find.result)
+    ∙ find_from_yields_List (λ k. not (cast_code (get_or c.args.codes.now k 0))) _ _ _ c.find.ensures.ran (yields_down c.args.count c.rev.ensures.source) (λ x b q k. search (rules, tests))
+    ∙ last_by_find c.args.codes.now c.args.count

@@ -9,7 +9,7 @@ unfolding ancestor_or_self
 returns-then-t-a c = rw (eq-eqb _ _ c.if-t-a.true)
 
 pub returns-then-t-ge64 : goal.returns-then-t-ge64
-returns-then-t-ge64 c = sym (ancestor-or_self_past _ c.requires.0 _ _ c.if-t-a.false c.if-t-ge64.true)
+returns-then-t-ge64 c = sym (ancestor-or_self_past _ _ _ c.if-t-a.false c.if-t-ge64.true)
 
 pub returns-then-a-ge128 : goal.returns-then-a-ge128
-returns-then-a-ge128 c = sym (ancestor-or_self_high _ c.requires.0 _ _ c.if-t-a.false c.if-a-ge128.true)
+returns-then-a-ge128 c = sym (ancestor-or_self_high _ _ _ c.if-t-a.false c.if-a-ge128.true)

@@ -1,22 +1,24 @@
-use Rattle.rules_bindings.proofs.Split.{paths_split}
+use Rattle.csdl.specs.Path.{path_of, start_of}
+use Rattle.rules_bindings.specs.Bindings.{binding_paths_fail}
 use Rattle.rules_bindings.proofs.bindings.binding_paths_fail.Goals as goal
 
-pub ends_apart-requires : goal.ends_apart-requires
-ends_apart-requires c = c.requires
-
 pub returns : goal.returns
+unfolding binding_paths_fail path_of start_of
 returns c = rw (
-  c.path_form-path.ensures.fails_value,
+  c.binding_codes.ensures,
   c.target_under_set.ensures,
-  c.target_form-target.ensures.fails_value,
+  c.target_codes.ensures,
   c.ends_apart.ensures,
-  c.path_form-path.ensures.end_value,
-  c.target_form-target.ensures.end_value,
-  c.binding_path.ensures.0,
-  c.binding_path.ensures.1,
-  c.binding_target_path.ensures.0,
-  c.binding_target_path.ensures.1,
+  c.end_of-path_end.ensures,
+  c.end_of-target_end.ensures,
+  c.run_of-path_run.ensures,
+  c.run_of-target_run.ensures,
+  c.child_type.ensures.0,
+  c.child_type-2.ensures.0,
   c.binding_child.ensures.0,
   c.binding_target.ensures.0,
+  c.binding_path-path.ensures.0,
+  c.binding_path-path.ensures.1,
+  c.binding_target_path-target.ensures.0,
+  c.binding_target_path-target.ensures.1,
 )
-    (paths_split c.args.types.now c.args.properties.now c.args.children.now c.args.bindings.now c.args.codes.now c.args.b)

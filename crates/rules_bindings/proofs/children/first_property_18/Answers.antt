@@ -1,15 +1,8 @@
-use Rattle.csdl.proofs.Loops.{first-start, first-hit, first_next, first_end}
-use native.Mathlib.Omega.{arith}
+use Rattle.std.proofs.Common.{rules, tests}
+use Rattle.csdl.proofs.Chains.{first_by_find}
+use Rattle.csdl.specs.Paths.{property18a}
+use Rattle.model_image.specs.Read.{model_read}
 use Rattle.rules_bindings.proofs.children.first_property_18.Goals as goal
 
-pub loop-p-init : goal.loop-p-init
-loop-p-init c = first-start _ _
-
-pub returns-then-property_18 : goal.returns-then-property_18
-returns-then-property_18 c = rw (← c.property_count-n.ensures.0) (first-hit _ _ _ _ c.loop-p.invariant c.loop-p-test.true c.property_18.ensures c.if-property_18.true)
-
-pub loop-p-preserved : goal.loop-p-preserved
-loop-p-preserved c = first_next _ _ _ _ c.loop-p.invariant c.loop-p-test.true c.property_18.ensures c.if-property_18.false
-
 pub returns : goal.returns
-returns c = rw (← c.property_count-n.ensures.0) (first_end _ _ _ c.loop-p.invariant (omega arith))
+returns c = first_by_find _ (λ p. property18a (model_read c.args.hierarchy.now.model) p) _ c.property_count.ensures.0 c.find.ensures.ran (λ x b q k. search (rules, tests))

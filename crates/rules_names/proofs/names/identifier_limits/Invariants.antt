@@ -3,6 +3,3 @@ use Rattle.rules_names.proofs.names.identifier_limits.Given as goal
 
 abbrev pub invariant-loop-i : goal.invariant-loop-i
 invariant-loop-i l = Limited l.names l.limits l.words l.i
-
-abbrev pub decreases-loop-i : goal.decreases-loop-i
-decreases-loop-i l = l.i

@@ -1,17 +1,9 @@
-use Rattle.csdl.specs.Form.{type7a}
-use Rattle.csdl.proofs.Loops.{any}
+use Rattle.std.proofs.Common.{refl, rules, tests}
+use Rattle.csdl.specs.Form.{type7a, same_type}
+use Rattle.csdl.proofs.Chains.{any_by_any}
+use Rattle.model_image.specs.Read.{model_read}
 use Rattle.rules_names.proofs.repeats.type_7.Goals as goal
-
-pub loop-u-init : goal.loop-u-init
-loop-u-init c = search any
-
-pub returns-then-same_type : goal.returns-then-same_type
-unfolding type7a
-returns-then-same_type c = search any
-
-pub loop-u-preserved : goal.loop-u-preserved
-loop-u-preserved c = search any
 
 pub returns : goal.returns
 unfolding type7a
-returns c = search any
+returns c = any_by_any _ (λ u. same_type (model_read c.args.model.now) c.args.t u) _ refl c.any.ensures.ran (λ x b q k. search (rules, tests))

@@ -1,15 +1,8 @@
-use Rattle.csdl.proofs.Loops.{first-start, first-hit, first_next, first_end}
-use native.Mathlib.Omega.{arith}
+use Rattle.csdl.specs.Form as rules
+use Rattle.model_image.specs.Read.{model_read}
+use Rattle.std.proofs.Common.{rules, tests}
+use Rattle.csdl.proofs.Chains.{first_by_find}
 use Rattle.rules_names.proofs.schemas.first_6.Goals as goal
 
-pub loop-i-init : goal.loop-i-init
-loop-i-init c = first-start _ _
-
-pub returns-then-schema_6 : goal.returns-then-schema_6
-returns-then-schema_6 c = rw (← c.schema_count-n.ensures.0) (first-hit _ _ _ _ c.loop-i.invariant c.loop-i-test.true c.schema_6.ensures c.if-schema_6.true)
-
-pub loop-i-preserved : goal.loop-i-preserved
-loop-i-preserved c = first_next _ _ _ _ c.loop-i.invariant c.loop-i-test.true c.schema_6.ensures c.if-schema_6.false
-
 pub returns : goal.returns
-returns c = rw (← c.schema_count-n.ensures.0) (first_end _ _ _ c.loop-i.invariant (omega arith))
+returns c = first_by_find _ (λ i. rules.schema6 (model_read c.args.model.now) i) _ c.schema_count.ensures.0 c.find.ensures.ran (λ x b q k. search (rules, tests))

@@ -1,14 +1,8 @@
-use Rattle.csdl.proofs.Loops.{any}
+use Rattle.std.proofs.Common.{refl, rules, tests}
+use Rattle.csdl.specs.Form as rules_of
+use Rattle.csdl.proofs.Chains.{any_by_any}
+use Rattle.model_image.specs.Read.{model_read}
 use Rattle.rules_names.proofs.schemas.schema_6c.Goals as goal
 
-pub loop-j-init : goal.loop-j-init
-loop-j-init c = search any
-
-pub returns-then-shares_name : goal.returns-then-shares_name
-returns-then-shares_name c = search any
-
-pub loop-j-preserved : goal.loop-j-preserved
-loop-j-preserved c = search any
-
 pub returns : goal.returns
-returns c = search any
+returns c = any_by_any _ (λ j. rules_of.shares_name (model_read c.args.model.now) c.args.i j) _ refl c.any.ensures.ran (λ x b q k. search (rules, tests))

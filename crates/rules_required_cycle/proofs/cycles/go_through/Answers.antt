@@ -8,11 +8,11 @@ use borrow.Author.Rules.{rules}
 use Rattle.rules_required_cycle.proofs.cycles.go_through.Goals as goal
 
 pub loop-a-init : goal.loop-a-init
-loop-a-init c = (search rules, search rules, search rules, search rules, search rules, going_start _ _ _)
+loop-a-init c = (search rules, search rules, search rules, search rules, going_start _ _ _)
 
 pub loop-a-preserved : goal.loop-a-preserved
-loop-a-preserved c = (search rules, search rules, search rules, rw length-set c.loop-a.invariant.3, rw length-set c.loop-a.invariant.4, row_more c.loop-a.a c.args.c c.with_row.result c.args.rows.now c.loop-a.rows c.loop-a.invariant.5 (omega arith) (omega arith) c.with_row.ensures)
+loop-a-preserved c = (search rules, search rules, search rules, rw length-set c.loop-a.invariant.3, row_more c.loop-a.a c.args.c c.with_row.result c.args.rows.now c.loop-a.rows c.loop-a.invariant.4 (omega arith) (omega arith) c.with_row.ensures)
 
 pub returns : goal.returns
 returns c = let e : c.loop-a.a ≡ c.args.n = omega arith in
-    record { same_length = c.loop-a.invariant.4; row = (going_through 64 c.loop-a.a c.args.c (step_of c.args.rows.now) (step_of c.loop-a.rows) c.loop-a.invariant.5 c.args.n (omega (arith, e))).row }
+    (going_through 64 c.loop-a.a c.args.c (step_of c.args.rows.now) (step_of c.loop-a.rows) c.loop-a.invariant.4 c.args.n (omega (arith, e))).row

@@ -1,22 +1,22 @@
+use Rattle.model_image.specs.Read.{model_read}
 use mathlib.Core.Path.{◌≡◌, ◌∙◌}
-use mathlib.Core.List.{[]}
 use native.Mathlib.Omega.{arith}
+use lib.ListN.{get_or}
 use borrow.Author.Rules.{rules}
-use Rattle.csdl.specs.Model.{model_of}
-use Rattle.csdl.specs.Path.{kind_paths_with}
-use Rattle.path_kinds.specs.Kinds.{kind_at}
+use Rattle.csdl.specs.Path.{kinds, kind_paths_with}
+use Rattle.csdl.specs.declared.PathKind.TheVariants.{Partner}
 use Rattle.rules_segments.proofs.Covering.{summed_start, summed_more, all_kinds}
 use Rattle.rules_segments.proofs.cover.covers.Goals as goal
 
-pub loop-n-init : goal.loop-n-init
-loop-n-init c = (search rules, search rules, summed_start (λ k g. kind_paths_with (model_of [] [] c.args.properties.now c.args.keys.now c.args.constraints.now [] c.args.bindings.now [] []) (kind_at k) g))
+pub loop-kind-init : goal.loop-kind-init
+loop-kind-init c = (search rules, summed_start (λ k g. kind_paths_with (model_read c.args.model.now) (get_or kinds k Partner) g))
 
 pub cover_kind-requires : goal.cover_kind-requires
-cover_kind-requires c = (search rules, search rules, search rules, search rules, λ g h. omega (arith, (c.loop-n.invariant.2 g (omega arith)).1))
+cover_kind-requires c = λ g h. omega (arith, (c.loop-kind.invariant.1 g (omega arith)).1)
 
-pub loop-n-preserved : goal.loop-n-preserved
-loop-n-preserved c = (search rules, search rules, summed_more (λ k g. kind_paths_with (model_of [] [] c.args.properties.now c.args.keys.now c.args.constraints.now [] c.args.bindings.now [] []) (kind_at k) g) c.loop-n.cover c.cover_kind.new.cover c.loop-n.n c.loop-n.invariant.2 (λ g h. rw (← c.kind_at-kind.ensures) (c.cover_kind.ensures.1 g (omega arith))))
+pub loop-kind-preserved : goal.loop-kind-preserved
+loop-kind-preserved c = (search rules, summed_more (λ k g. kind_paths_with (model_read c.args.model.now) (get_or kinds k Partner) g) c.loop-kind.cover c.cover_kind.new.cover c.loop-kind.kind-index c.loop-kind.invariant.1 (λ g h. c.cover_kind.ensures.1 g (omega arith)))
 
 pub returns : goal.returns
-returns c = let e : c.loop-n.n ≡ 6 = omega arith in
-    λ g h. rw e at (c.loop-n.invariant.2 g h).0 ∙ all_kinds (model_of [] [] c.args.properties.now c.args.keys.now c.args.constraints.now [] c.args.bindings.now [] []) g
+returns c = let e : c.loop-kind.kind-index ≡ 6 = omega arith in
+    λ g h. rw e at (c.loop-kind.invariant.1 g h).0 ∙ all_kinds (model_read c.args.model.now) g

@@ -1,15 +1,13 @@
-use Prim.Native.Nat.{◌-◌, ◌≤◌}
+use Rattle.model_image.specs.Read.{model_read}
+use Prim.Native.Nat.{◌≤◌}
 use mathlib.Core.Path.{◌≡◌}
-use lib.ListN.{length}
-use Rattle.csdl.specs.Image.{model_in}
+use lib.ListN.{length, get_or}
+use Rattle.csdl.specs.Path.{kinds}
 use Rattle.csdl.specs.Paths.{unresolved_of}
-use Rattle.path_kinds.specs.Kinds.{kind_at}
+use Rattle.csdl.specs.declared.PathKind.TheVariants.{Partner}
 use Rattle.rules_segments.specs.Kept.{Progress, PastKept}
 use Rattle.rules_segments.proofs.Least.{Least}
 use Rattle.rules_segments.proofs.unresolved.first_14.Given as goal
 
-abbrev pub invariant-loop-k : goal.invariant-loop-k
-invariant-loop-k l = (l.k ≤ 6) × (l.n ≤ 1024) × (length l.codes ≡ length l.initial.codes) × Least (λ j g. unresolved_of (model_in l.image) (kind_at j) g) l.n l.k l.low × Progress (model_in l.image) l.codes l.k × PastKept (model_in l.image) l.initial.codes l.codes
-
-abbrev pub decreases-loop-k : goal.decreases-loop-k
-decreases-loop-k l = 6 - l.k
+abbrev pub invariant-loop-kind : goal.invariant-loop-kind
+invariant-loop-kind l = (l.n ≤ 1024) × (length l.codes ≡ length l.initial.codes) × Least (λ j g. unresolved_of (model_read l.lookup.hierarchy.model) (get_or kinds j Partner) g) l.n l.kind-index l.low × Progress (model_read l.lookup.hierarchy.model) l.codes l.kind-index × PastKept (model_read l.lookup.hierarchy.model) l.initial.codes l.codes

@@ -1,16 +1,11 @@
 use mathlib.Core.Path.{◌≡◌}
+use Prim.Native.Nat.{◌+◌, ◌-◌}
+use lib.Seq.{drop-drop}
 use native.Mathlib.Omega.{arith}
-use lib.ListN.{length-set}
-use Rattle.rules_segments.proofs.Keeping.{run_start, run_more}
-use borrow.Author.Rules.{rules}
+use Rattle.rules_segments.proofs.Keeping.{run_copied}
 use Rattle.rules_segments.proofs.unresolved.keep_run.Goals as goal
 
-pub loop-k-init : goal.loop-k-init
-loop-k-init c = (search rules, search rules, run_start c.args.run.now c.args.codes.now c.args.first)
-
-pub loop-k-preserved : goal.loop-k-preserved
-loop-k-preserved c = (search rules, rw length-set c.loop-k.invariant.1, run_more c.args.run.now c.args.codes.now c.loop-k.codes c.args.first c.loop-k.k c.loop-k.invariant.2 (omega arith))
-
 pub returns : goal.returns
-returns c = let e : c.loop-k.k ≡ c.args.count = omega arith in
-    rw (← e) c.loop-k.invariant.2
+returns c =
+    let z : c.args.first + c.args.count - c.args.first ≡ c.args.count = omega arith in
+    rw (z, c.copy_from_slice.ensures.after, drop-drop) (run_copied c.args.run.now c.args.codes.now c.args.first c.args.count (omega (arith, c.requires)) c.requires.2)

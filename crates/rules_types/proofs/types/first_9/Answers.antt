@@ -1,15 +1,8 @@
-use Rattle.csdl.proofs.Loops.{first-start, first-hit, first_next, first_end}
-use native.Mathlib.Omega.{arith}
+use Rattle.csdl.specs.Types.{type9}
+use Rattle.model_image.specs.Read.{model_read}
+use Rattle.std.proofs.Common.{rules, tests}
+use Rattle.csdl.proofs.Chains.{first_by_find}
 use Rattle.rules_types.proofs.types.first_9.Goals as goal
 
-pub loop-t-init : goal.loop-t-init
-loop-t-init c = first-start _ _
-
-pub returns-then-type_9 : goal.returns-then-type_9
-returns-then-type_9 c = rw (← c.type_count-n.ensures.0) (first-hit _ _ _ _ c.loop-t.invariant c.loop-t-test.true c.type_9.ensures c.if-type_9.true)
-
-pub loop-t-preserved : goal.loop-t-preserved
-loop-t-preserved c = first_next _ _ _ _ c.loop-t.invariant c.loop-t-test.true c.type_9.ensures c.if-type_9.false
-
 pub returns : goal.returns
-returns c = rw (← c.type_count-n.ensures.0) (first_end _ _ _ c.loop-t.invariant (omega arith))
+returns c = first_by_find _ (λ t. type9 (model_read c.args.model.now) t) _ c.type_count.ensures.0 c.find.ensures.ran (λ x b q k. search (rules, tests))

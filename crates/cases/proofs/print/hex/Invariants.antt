@@ -1,8 +1,0 @@
-use Rattle.std.proofs.Common.{◌-◌, ◌^◌, ◌<◌, length}
-use Rattle.cases.proofs.print.hex.Given as goal
-
-abbrev pub invariant-loop-i : goal.invariant-loop-i
-invariant-loop-i g l = length l.s < 2 ^ 64
-
-abbrev pub decreases-loop-i : goal.decreases-loop-i
-decreases-loop-i g l = length l.s - l.i

@@ -1,0 +1,12 @@
+// An instance as its image has it: its nodes, slots and items. No table is larger than its limit.
+ghost use Rattle.instance_image.specs.Limits.{FewNodes, FewSlots, FewItems};
+
+#[derive(Clone, Copy)]
+pub struct Instance<'a> {
+    pub nodes: &'a [u8],
+    pub slots: &'a [u8],
+    pub items: &'a [u8],
+    pub ghost few_nodes: { FewNodes nodes.now },
+    pub ghost few_slots: { FewSlots slots.now },
+    pub ghost few_items: { FewItems items.now },
+}

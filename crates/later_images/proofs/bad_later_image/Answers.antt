@@ -1,6 +1,0 @@
-use Rattle.csdl.specs.Later.{later_image1}
-use Rattle.later_images.proofs.bad_later_image.Goals as goal
-
-pub returns : goal.returns
-unfolding later_image1
-returns c = rw (← c.image_end-end.ensures, ← c.tables-n.ensures.0, ← c.number_at.ensures, ← c.many_records.ensures, ← c.number_at-2.ensures)

@@ -1,4 +1,0 @@
-use Rattle.later_images.proofs.image_end.Goals as goal
-
-pub returns : goal.returns
-returns c = rw (← c.tables-n.ensures.0, ← c.table_from.ensures.0, ← c.number_at.ensures)

@@ -1,9 +1,0 @@
-use native.Mathlib.Omega.{arith}
-use Rattle.csdl.proofs.Later.{table_next}
-use Rattle.later_images.proofs.table_of.Goals as goal
-
-pub overflow_sub-table_from : goal.overflow_sub-table_from
-overflow_sub-table_from c = omega (arith, c.table_from.ensures.0, c.table_from-from.ensures.0, table_next c.args.sizes.now c.args.image.now c.args.k (omega (arith, c.requires)))
-
-pub returns : goal.returns
-returns c = rw (← c.table_from-from.ensures.0, ← c.table_from.ensures.0) c.part_of.ensures

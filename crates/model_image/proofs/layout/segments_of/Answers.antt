@@ -1,9 +1,0 @@
-use native.Mathlib.Omega.{arith}
-use Rattle.model_image.proofs.Laid.{opened, cut}
-use Rattle.model_image.proofs.layout.segments_of.Goals as goal
-
-pub overflow_sub-at : goal.overflow_sub-at
-overflow_sub-at c = let l = opened c.requires in omega (arith, l.segments, l.names)
-
-pub returns : goal.returns
-returns c = let l = opened c.requires in cut l l.segments l.names l.segments-most c.part_of.ensures

@@ -1,0 +1,19 @@
+use Rattle.csdl.specs.Image.{model_in}
+use Rattle.model_image.specs.Read.{model_read}
+use Rattle.model_image.proofs.model.Model.read.Goals as goal
+
+pub returns : goal.returns
+unfolding model_read model_in
+returns c = rw (
+  c.part_of.ensures,
+  c.part_of-2.ensures,
+  c.part_of-3.ensures,
+  c.part_of-4.ensures,
+  c.part_of-5.ensures,
+  c.part_of-6.ensures,
+  c.part_of-7.ensures,
+  c.part_of-8.ensures,
+  c.part_of-9.ensures,
+  c.starts_of-at.ensures,
+  c.counts_of.ensures,
+)

@@ -1,4 +1,0 @@
-use Rattle.type_hierarchy.proofs.ancestors.+above.Given as goal
-
-abbrev pub decreases-above : goal.decreases-above
-decreases-above l = l.left
