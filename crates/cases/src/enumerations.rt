@@ -9,9 +9,11 @@ use std::rt::Files;
 const MEMBERS_SIZE: usize = 16391;
 
 pub fn check(rt: &(impl Print + Eprint + Alloc + Files), text: &[u8]) {
-    let mut image = [0u8; IMAGE_SIZE];
-    let m = load(rt, line::model(text), &mut image);
-    let mut stored = [0u8; MEMBERS_SIZE];
-    let n = load(rt, line::second(text), &mut stored);
-    print::conforming(rt, check_members(&image[..m], &stored[..n]));
+    let mut model = [0u8; IMAGE_SIZE];
+    let mut members = [0u8; MEMBERS_SIZE];
+    let answer = check_members(
+        load(rt, line::model(text), &mut model),
+        load(rt, line::second(text), &mut members),
+    );
+    print::conforming(rt, answer);
 }

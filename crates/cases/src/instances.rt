@@ -10,36 +10,35 @@ use std::rt::Files;
 const INSTANCE_SIZE: usize = 14345;
 
 pub fn check(rt: &(impl Print + Eprint + Alloc + Files), text: &[u8]) {
-    let mut image = [0u8; IMAGE_SIZE];
-    let m = load(rt, line::model(text), &mut image);
+    let mut model = [0u8; IMAGE_SIZE];
     let mut instance = [0u8; INSTANCE_SIZE];
-    let n = load(rt, line::second(text), &mut instance);
-    print::conforming(rt, check_instance(&image[..m], &instance[..n]));
+    let answer = check_instance(
+        load(rt, line::model(text), &mut model),
+        load(rt, line::second(text), &mut instance),
+    );
+    print::conforming(rt, answer);
 }
 
 pub fn walk(rt: &(impl Print + Eprint + Alloc + Files), text: &[u8]) {
-    let mut image = [0u8; IMAGE_SIZE];
-    let m = load(rt, line::model(text), &mut image);
-    let mut instance = [0u8; INSTANCE_SIZE];
-    let n = load(rt, line::second(text), &mut instance);
+    let mut model_array = [0u8; IMAGE_SIZE];
+    let model = load(rt, line::model(text), &mut model_array);
+    let mut instance_array = [0u8; INSTANCE_SIZE];
+    let instance = load(rt, line::second(text), &mut instance_array);
     let mut buffer = [FILL; 16384];
-    print_walk(
-        rt,
-        walk_lent(&image[..m], &instance[..n], text, &mut buffer),
-    );
+    print_walk(rt, walk_lent(model, instance, text, &mut buffer));
     print::bytes(rt, b" results ", &buffer, line::shown(text));
 }
 
 // The walk that the line asks for, with the first bytes of the buffer lent, or all of it where it has not so many.
 fn walk_lent(
-    image: &[u8],
+    model: &[u8],
     instance: &[u8],
     text: &[u8],
     buffer: &mut [u8],
 ) -> Result<Walked, Refusal> {
     let n = buffer.len().min(line::lent(text) as usize);
     walk::walk(
-        image,
+        model,
         instance,
         line::place(text),
         line::path(text),

@@ -1,6 +1,4 @@
 // A line of the list: columns of text, padded with blanks, and of decimal digits.
-ghost use Rattle.std.specs.Prelude.{◌≤◌};
-
 // The bytes of a line, its end with them.
 pub const SIZE: usize = 190;
 
@@ -55,22 +53,13 @@ fn column(text: &[u8], start: u32, width: u32) -> &[u8] {
     &padded[..size]
 }
 
-// The number that decimal digits spell, modulo 2^32.
+// The number that decimal digits spell, modulo 2^32; other bytes count as 0.
 fn number(digits: &[u8]) -> u32 {
-    let mut r: u64 = 0;
-    for b in digits {
-        r = (10 * r + digit(*b)) % 4294967296;
-    }
-    r as u32
+    digits
+        .iter()
+        .fold(0, |n: u32, b| n.wrapping_mul(10).wrapping_add(digit(*b)))
 }
 
-// What a digit counts; other bytes count nothing.
-fn digit(b: u8) -> u64
-    ensures { result ≤ 9 }
-{
-    if b.is_ascii_digit() {
-        (b - b'0') as u64
-    } else {
-        0
-    }
+fn digit(b: u8) -> u32 {
+    char::from(b).to_digit(10).unwrap_or(0)
 }

@@ -28,11 +28,12 @@ fn answer(rt: &(impl Print + Eprint + Alloc + Files), text: &[u8]) {
 
 // Reads a line, answers its case and says whether to go on.
 fn answer_next(rt: &(impl Print + Eprint + Alloc + Files), list: &mut impl Read) -> bool {
-    let mut text = [0u8; line::SIZE];
-    if input::fill(list, &mut text).size < line::SIZE {
+    let mut array = [0u8; line::SIZE];
+    let text = input::fill(list, &mut array).bytes;
+    if text.len() < line::SIZE {
         return false;
     }
-    answer(rt, &text);
+    answer(rt, text);
     true
 }
 

@@ -10,12 +10,9 @@ use model_image::model::Model;
 // Explains the mark of an image. Any bytes may be given.
 pub fn explain(rt: &impl Output, image: &[u8]) {
     let mut resolution = [0u8; sheet::RESOLUTION_SIZE];
-    let mut line = [0u8; sheet::LINE_SIZE];
-    let marked = sheet::first_line(image, &mut resolution, &mut line);
-    let n = marked.size;
-    if input::written(rt, &line[..n]) {
-        let answer = marked.answer;
-        explain_answer(rt, image, &resolution, answer);
+    let marked = sheet::first_line(image, &mut resolution);
+    if input::written(rt, marked.line.as_str().as_bytes()) {
+        explain_answer(rt, image, &resolution, marked.answer);
     }
 }
 

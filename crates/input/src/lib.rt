@@ -1,5 +1,5 @@
 // The images that a program is given: on standard input, or in the files that its arguments name. What cannot be opened, read or written is
-// named on standard error, with the reason. No contract can say which bytes are read; these say that the sizes count bytes of the arrays.
+// named on standard error, with the reason. No contract can say which bytes are read; these say that they fit into the arrays.
 #![tactic(auto)]
 
 ghost use Rattle.std.specs.Prelude.{◌≡◌, ◌≤◌, length, take, IfOk, IfSome};
@@ -51,45 +51,48 @@ fn read_some(from: &mut impl Read, image: &mut [u8]) -> io::Result<usize>
     from.read(image)
 }
 
-// How many bytes an array was given, and how the last read went.
+// The bytes that an array was given, and how the last read went.
 #[derive(Drop)]
-pub struct Filled {
-    pub size: usize,
+pub struct Filled<'a> {
+    pub bytes: &'a [u8],
     pub end: io::Result<()>,
 }
 
 // Fills the array from its start until it is full, the input ends or a read fails: no method of the library takes less than there is room for.
-pub fn fill(from: &mut impl Read, image: &mut [u8]) -> Filled
-    ensures { (result.size ≤ length image.new) × (result.size ≡ length (take result.size image.new)) }
+pub fn fill<'a>(from: &mut impl Read, array: &'a mut [u8]) -> Filled<'a>
+    ensures { length result.bytes.now ≤ length array.old }
 {
     let mut size: usize = 0;
-    while size < image.len() {
-        match read_some(from, &mut image[size..]) {
+    while size < array.len() {
+        match read_some(from, &mut array[size..]) {
             Ok(0) => break,
             Ok(more) => size += more,
             Err(error) => {
                 return Filled {
-                    size,
+                    bytes: &array[..size],
                     end: Err(error),
                 };
             }
         }
     }
-    Filled { size, end: Ok(()) }
+    Filled {
+        bytes: &array[..size],
+        end: Ok(()),
+    }
 }
 
-// Reads an image, if every read succeeds: how many bytes it has. `name` is what a failure names.
-pub fn read_image(
+// Reads an image into the array, if every read succeeds. `name` is what a failure names.
+pub fn read_image<'a>(
     rt: &(impl Eprint + Alloc),
     from: &mut impl Read,
     name: &[u8],
-    image: &mut [u8; IMAGE_SIZE],
-) -> Option<usize>
-    ensures { IfSome result (λ n. (n ≤ length image.new) × (n ≡ length (take n image.new))) }
+    array: &'a mut [u8; IMAGE_SIZE],
+) -> Option<&'a [u8]>
+    ensures { IfSome result (λ image. length image.now ≤ length array.old) }
 {
-    let filled = fill(from, image);
+    let filled = fill(from, array);
     match filled.end {
-        Ok(()) => Some(filled.size),
+        Ok(()) => Some(filled.bytes),
         Err(error) => {
             fail(rt, name, error);
             None
@@ -105,19 +108,17 @@ pub fn open<R: Files>(rt: &R, name: &[u8]) -> io::Result<R::File> {
     }
 }
 
-// Reads the image that a name names; - is standard input.
-fn read_named(
+// Reads the image that a name names into the array; - is standard input.
+fn read_named<'a>(
     rt: &(impl Eprint + Alloc + io::Input + Files),
     name: &[u8],
-    image: &mut [u8; IMAGE_SIZE],
-) -> Option<usize>
-    ensures { IfSome result (λ n. (n ≤ length image.new) × (n ≡ length (take n image.new))) }
-{
+    array: &'a mut [u8; IMAGE_SIZE],
+) -> Option<&'a [u8]> {
     if name == b"-".as_slice() {
-        return read_image(rt, &mut rt.reader(), b"standard input", image);
+        return read_image(rt, &mut rt.reader(), b"standard input", array);
     }
     match open(rt, name) {
-        Ok(mut file) => read_image(rt, &mut file, name, image),
+        Ok(mut file) => read_image(rt, &mut file, name, array),
         Err(error) => {
             fail(rt, name, error);
             None
@@ -131,12 +132,14 @@ fn has_argument(rt: &impl Env, i: usize) -> bool {
     !matches!(rt.arg(i, &mut name), Err(FillError::NotPresent))
 }
 
-// Argument i, if it can be had: how many bytes it has.
-fn argument(rt: &(impl Eprint + Alloc + Env), i: usize, name: &mut [u8]) -> Option<usize>
-    ensures { IfSome result (λ n. (n ≤ length name.new) × (n ≡ length (take n name.new))) }
-{
-    match rt.arg(i, name) {
-        Ok(n) => Some(n),
+// Argument i, if it can be had, put into the array.
+fn argument<'a>(
+    rt: &(impl Eprint + Alloc + Env),
+    i: usize,
+    array: &'a mut [u8],
+) -> Option<&'a [u8]> {
+    match rt.arg(i, array) {
+        Ok(n) => Some(&array[..n]),
         Err(error) => {
             fail(rt, b"argument", of_argument(error));
             None
@@ -172,9 +175,9 @@ fn heading(rt: &(impl Print + Eprint + Alloc), name: &[u8], several: bool) -> bo
 fn show_input<R: Eprint + Alloc + io::Input, F: Fn(&[u8], bool)>(rt: &R, show: &F)
     requires { F.IsAlwaysCallable show.now }
 {
-    let mut image = [0u8; IMAGE_SIZE];
-    if let Some(n) = read_image(rt, &mut rt.reader(), b"standard input", &mut image) {
-        show(&image[..n], false);
+    let mut array = [0u8; IMAGE_SIZE];
+    if let Some(image) = read_image(rt, &mut rt.reader(), b"standard input", &mut array) {
+        show(image, false);
     }
 }
 
@@ -187,16 +190,16 @@ fn show_argument<R: Print + Eprint + Alloc + io::Input + Files + Env, F: Fn(&[u8
 )
     requires { F.IsAlwaysCallable show.now }
 {
-    let mut name = [0u8; NAME_SIZE];
-    let Some(k) = argument(rt, i, &mut name) else {
+    let mut name_array = [0u8; NAME_SIZE];
+    let Some(name) = argument(rt, i, &mut name_array) else {
         return;
     };
-    let mut image = [0u8; IMAGE_SIZE];
-    let Some(n) = read_named(rt, &name[..k], &mut image) else {
+    let mut array = [0u8; IMAGE_SIZE];
+    let Some(image) = read_named(rt, name, &mut array) else {
         return;
     };
-    if heading(rt, &name[..k], several) {
-        show(&image[..n], several);
+    if heading(rt, name, several) {
+        show(image, several);
     }
 }
 

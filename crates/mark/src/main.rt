@@ -3,9 +3,8 @@
 #![tactic(auto)]
 
 fn print_sheet(rt: &(impl Print + Eprint + Alloc), image: &[u8]) {
-    let mut text = [0u8; sheet::SHEET_SIZE];
-    let n = sheet::mark_sheet(image, &mut text);
-    input::written(rt, &text[..n]);
+    let text = sheet::mark_sheet(image);
+    input::written(rt, text.as_str().as_bytes());
 }
 
 fn main(rt: HostRuntime) {

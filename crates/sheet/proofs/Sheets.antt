@@ -7,26 +7,23 @@ use native.Mathlib.Nat.{add-zero}
 use native.Mathlib.Omega.{arith}
 use Rattle.std.proofs.Common.{Result, Ok, Err}
 use lib.ListN.{length, drop, get_or}
-use lib.Seq.{get_or-take, get_or-drop, length-take-le}
+use lib.Seq.{get_or-take, get_or-drop}
 use borrow.Author.Tests.{le-ltb}
 use Rattle.packed.specs.Bytes.{part}
 use Rattle.packed.proofs.Laws.{two_bytes}
-use Rattle.io.specs.Counts.{IsPrefixLen}
 use Rattle.csdl.specs.Search.{tab}
 use Rattle.csdl.specs.Model.{Model, segments_at}
 use Rattle.csdl.specs.Image.{model_in, header, image1, buffer2}
 use Rattle.csdl.specs.Path.{step_of_segment}
 use Rattle.csdl.specs.Accepted.{ModelPasses}
 use Rattle.csdl.specs.Verdict.{verdict, model_means, model_then, model_answer, model_buffer, resolution, step_code, bytes_of}
-use Rattle.csdl.specs.Verdict.Answer.{accepted}
+use Rattle.csdl.specs.Verdict.Answer.{accepted, refused}
 use Rattle.csdl.specs.declared.Refusal.{Refusal}
 use Rattle.csdl.proofs.Logic.{tab-length, tab-at}
 use Rattle.csdl.proofs.Bounds.{segments-most}
 use Rattle.csdl.proofs.Verdicts.{model_then_accepts}
 use Rattle.demands.proofs.Blocks.{block_at}
-use Rattle.sheet_lines.specs.Text.{accepted_line, refused_line, code_lines}
-use Rattle.sheet_lines.specs.Put.{Put}
-use Rattle.sheet_lines.proofs.Putting.{from_start}
+use Rattle.sheet_lines.specs.Lines.{code_lines}
 use Rattle.sheet.specs.Sheet.{mark_of, first_line, first_text, segment_lines, mark_text}
 
 -- A buffer of 2,048 bytes never breaks rule 2.
@@ -75,26 +72,14 @@ unfolding code_lines segment_lines
 lines_of m rest zero h = refl
 lines_of m rest (suc g) h = rw (lines_of m rest g (omega arith), code_of m rest g (omega arith))
 
--- What was put at the start is the text.
-pub said : (text : List ℕ) {out word after : List ℕ} {n : ℕ} → word ≡ text → Put out 0 word after n
-    → (n ≡ length text) × ((after ≡ text ++ drop n out) × IsPrefixLen n after)
-said text {out} {word} {after} {n} e p =
-    let s = from_start p in
-    let fits : n ≤ length after = omega (arith, p.within, p.same_length) in
-    (rw (← e) s.0, (rw (← e) s.1, (fits, sym (length-take-le n after fits))))
-
 module _ (image : List ℕ) (r : Result ℕ Refusal) (means : model_means r ≡ mark_of image) where
-  pub first-accepted : (s : ℕ) → r ≡ Ok s → accepted_line s ≡ first_text image
-  unfolding first_line model_means
-  first-accepted s e = rw (← means, e)
+  pub said : first_line (model_means r) ≡ first_text image
+  said = rw means
 
-  pub first-refused : (x : Refusal) → r ≡ Err x → refused_line x.rule x.place ≡ first_text image
-  unfolding first_line model_means
-  first-refused x e = rw (← means, e)
-
-  pub refused-text : (x : Refusal) → r ≡ Err x → refused_line x.rule x.place ≡ mark_text image
-  unfolding mark_text first_line model_means
-  refused-text x e = rw (← means, e) (sym (append-nil (refused_line x.rule x.place)))
+  module _ (x : Refusal) (e : r ≡ Err x) where
+    pub refused-text : first_line (model_means r) ≡ mark_text image
+    unfolding mark_text model_means
+    refused-text = rw (← means, e) (sym (append-nil (first_line (refused x.rule x.place))))
 
   module _ (s : ℕ) (e : r ≡ Ok s) where
     is-accepted : mark_of image ≡ accepted (s ∷ [])
@@ -117,7 +102,7 @@ module _ (image : List ℕ) (r : Result ℕ Refusal) (means : model_means r ≡ 
       unfolding model_buffer
       left = w ∙ rw (answer_is image buffer room, is-accepted)
 
-      pub accepted-text : (first : ℕ) → first ≡ segments_at (model_in image) → accepted_line s ++ code_lines codes first s ≡ mark_text image
+      pub accepted-text : (first : ℕ) → first ≡ segments_at (model_in image) → first_line (model_means r) ++ code_lines codes first s ≡ mark_text image
       unfolding mark_text
       accepted-text first f =
-          rw (first-accepted s e, left, f, segments_are, lines_of (model_in image) (drop (2 * (model_in image).segments) buffer) (model_in image).segments (omega arith), is-accepted)
+          rw (said, left, f, segments_are, lines_of (model_in image) (drop (2 * (model_in image).segments) buffer) (model_in image).segments (omega arith), is-accepted)

@@ -5,7 +5,7 @@ use Rattle.csdl.specs.Image.{model_in}
 use Rattle.csdl.specs.Path.{step_of_segment}
 use Rattle.csdl.specs.Verdict.{Answer, model_then, step_code}
 use Rattle.csdl.specs.Verdict.Answer.{accepted, refused}
-use Rattle.sheet_lines.specs.Text.{accepted_line, refused_line, segment_line}
+use Rattle.sheet_lines.specs.Lines.{accepted_line, refused_line, segment_line}
 
 -- The mark of an image: the answer by rules 1 and 3 to 19. Rule 2 speaks of the caller's buffer, and there is none.
 unfoldable pub mark_of : List ℕ → Answer

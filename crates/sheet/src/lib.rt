@@ -1,14 +1,15 @@
-// The sheet of an image: the bytes that `mark` prints, of which `explain` prints the first line.
+// The sheet of an image: the text that `mark` prints, of which `explain` prints the first line.
 #![tactic(auto)]
 
-ghost use Rattle.std.specs.Prelude.{◌≡◌, ◌++◌, ◌≤◌, length, drop};
-ghost use Rattle.io.specs.Counts.{IsPrefixLen};
+ghost use Rattle.std.specs.Prelude.{◌≡◌, ◌+◌, ◌++◌, ◌≤◌, IfOk, length};
+ghost use Rattle.arrayvec.specs.ArrayString.{array_string_len};
 ghost use Rattle.csdl.specs.Verdict.{model_means, model_buffer};
-ghost use Rattle.sheet.specs.Sheet.{mark_of, first_text, mark_text};
+ghost use Rattle.sheet.specs.Sheet.{mark_of, first_line, first_text, mark_text};
 
+use arrayvec::ArrayString;
 use csdl::Refusal;
 use model_image::model::Model;
-use sheet_lines::line::{accepted_line, refused_line, segment_lines};
+use sheet_lines::{accepted_line, refused_line, segment_lines};
 
 // Two bytes for each of the 1,024 segments that an image has at most, so that rule 2 is never broken.
 pub const RESOLUTION_SIZE: usize = 2048;
@@ -19,11 +20,11 @@ pub const LINE_SIZE: usize = 26;
 // The longest sheet: 15 bytes for `accepted` with a number, and 21 for each segment.
 pub const SHEET_SIZE: usize = 21519;
 
-// The answer of the check and the length of the line that says it.
+// The answer of the check, and the line that says it.
 #[derive(Clone, Copy)]
 pub struct Marked {
     pub answer: Result<u16, Refusal>,
-    pub size: usize,
+    pub line: ArrayString<LINE_SIZE>,
 }
 
 fn check(image: &[u8], resolution: &mut [u8]) -> Result<u16, Refusal>
@@ -34,45 +35,42 @@ fn check(image: &[u8], resolution: &mut [u8]) -> Result<u16, Refusal>
     model_check::check_model(image, resolution)
 }
 
-// Puts the first line of the sheet at the start of `out`, and what the segments resolve to into `resolution`.
-pub fn first_line(
-    image: &[u8],
-    resolution: &mut [u8; RESOLUTION_SIZE],
-    out: &mut [u8; LINE_SIZE],
-) -> Marked
-    ensures answer_value { model_means result.answer ≡ mark_of image.now }
-    ensures resolution_after { resolution.new ≡ model_buffer image.now resolution.old }
-    ensures size_value { result.size ≡ length (first_text image.now) }
-    ensures out_after { out.new ≡ first_text image.now ++ drop result.size out.old }
-    ensures prefix_len { IsPrefixLen result.size out.new }
+// Puts the line that says the answer at the end of the text.
+#[tactic(auto, unfolding(crate::specs::Sheet::first_line, csdl::specs::Verdict::model_means))]
+fn answer_line<const N: usize>(text: &mut ArrayString<N>, answer: Result<u16, Refusal>)
+    requires { array_string_len text.old + 26 ≤ N }
+    ensures after { text.new.bytes ≡ text.old.bytes ++ first_line (model_means answer) }
+    ensures bound { IfOk answer (λ _. array_string_len text.new ≤ array_string_len text.old + 15) }
 {
-    let answer = check(image, resolution);
     match answer {
-        Ok(segments) => Marked {
-            answer,
-            size: accepted_line(segments, out),
-        },
-        Err(refusal) => Marked {
-            answer,
-            size: refused_line(refusal.rule, refusal.place, out),
-        },
+        Ok(segments) => accepted_line(text, segments),
+        Err(refusal) => refused_line(text, refusal.rule, refusal.place),
     }
 }
 
-// Puts the sheet at the start of `out` and answers its length.
-pub fn mark_sheet(image: &[u8], out: &mut [u8; SHEET_SIZE]) -> usize
-    ensures value { result ≡ length (mark_text image.now) }
-    ensures out_after { out.new ≡ mark_text image.now ++ drop result out.old }
-    ensures prefix_len { IsPrefixLen result out.new }
+// The first line of the sheet. What the segments resolve to goes into `resolution`.
+pub fn first_line(image: &[u8], resolution: &mut [u8; RESOLUTION_SIZE]) -> Marked
+    ensures answer_value { model_means result.answer ≡ mark_of image.now }
+    ensures line_value { result.line.bytes ≡ first_text image.now }
+    ensures resolution_after { resolution.new ≡ model_buffer image.now resolution.old }
+{
+    let answer = check(image, resolution);
+    let mut line = ArrayString::new();
+    answer_line(&mut line, answer);
+    Marked { answer, line }
+}
+
+// The sheet.
+pub fn mark_sheet(image: &[u8]) -> ArrayString<SHEET_SIZE>
+    ensures { result.bytes ≡ mark_text image.now }
 {
     let mut resolution = [0u8; RESOLUTION_SIZE];
     let answer = check(image, &mut resolution);
-    match answer {
-        Ok(segments) => {
-            let n = accepted_line(segments, out);
-            let first = Model::read(image).segments_at();
-            segment_lines(&resolution, first, segments, out, n)
-        }
-        Err(refusal) => refused_line(refusal.rule, refusal.place, out),
+    let mut text = ArrayString::new();
+    answer_line(&mut text, answer);
+    if let Ok(segments) = answer {
+        let first = Model::read(image).segments_at();
+        segment_lines(&mut text, &resolution, first, segments);
     }
+    text
 }

@@ -3,7 +3,7 @@ use Rattle.std.proofs.Common.{◌≡◌, ◌-◌, ◌^◌, ◌≤◌, ◌<◌, l
 use Rattle.input.proofs.fill.Given as goal
 
 abbrev pub invariant-loop-size : goal.invariant-loop-size
-invariant-loop-size g l = (length l.image ≡ length l.initial.image) × (l.size ≤ length l.image) × (length l.image < 2 ^ 64)
+invariant-loop-size g l = (length l.array ≡ length l.initial.array) × (l.size ≤ length l.array) × (length l.array < 2 ^ 64)
 
 abbrev pub decreases-loop-size : goal.decreases-loop-size
-decreases-loop-size g l = length l.image - l.size
+decreases-loop-size g l = length l.array - l.size

@@ -2,7 +2,7 @@ use mathlib.Core.Path.{◌≡◌}
 use Prim.Native.Nat.{◌+◌, ◌*◌}
 use native.Mathlib.Omega.{arith}
 use Rattle.packed.proofs.Laws.{field_16}
-use Rattle.sheet_lines.proofs.line.code_at.Goals as goal
+use Rattle.sheet_lines.proofs.code_at.Goals as goal
 
 pub returns : goal.returns
 returns c =
