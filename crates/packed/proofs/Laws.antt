@@ -1,7 +1,7 @@
 -- Laws of packed fields, of parts, of equal byte strings and of the two bytes of a number. Assumes nothing.
-use mathlib.Core.Path.{◌≡◌, refl, sym, ◌∙◌}
+use mathlib.Core.Path.{◌≡◌, refl, sym, ap, ◌∙◌}
 use mathlib.Core.List.{List, [], ◌∷◌}
-use mathlib.Core.Bool.{Bool, true, false, cond, ◌&&◌, and-true, and_assoc, false≢true}
+use mathlib.Core.Bool.{Bool, true, false, cond, ◌&&◌, and-true, and-false, and_assoc, false≢true}
 use Prim.Native.Nat.{ℕ, zero, suc, min, ◌+◌, ◌-◌, ◌*◌, ◌/◌, ◌%◌, ◌^◌, ◌≤◌, ◌<◌}
 use native.Mathlib.Nat.{zero-add, add-zero, add-suc, add_assoc, mul-one, one-mul, mul_assoc, mul-suc, pow-zero, pow-suc, mod-one, mod-eq_of_lt, div-one, zero-div}
 use native.Mathlib.Numerals.{add-one}
@@ -178,6 +178,26 @@ same_sym [] [] = refl
 same_sym [] (y ∷ b) = refl
 same_sym (x ∷ a) [] = refl
 same_sym (x ∷ a) (y ∷ b) = rw (eqb_sym x y, same_sym a b)
+
+-- strings of other lengths differ
+pub same_lengths : (a b : List ℕ) → (length a ≡ length b → ⊥) → same a b ≡ false
+unfolding same
+same_lengths [] [] h = absurd (h refl)
+same_lengths [] (y ∷ b) h = refl
+same_lengths (x ∷ a) [] h = refl
+same_lengths (x ∷ a) (y ∷ b) h = rw (same_lengths a b (λ e. h (ap suc e)), and-false)
+
+-- strings of one length are equal where they begin alike in all their bytes
+pub same_common : (a b : List ℕ) → length a ≡ length b → eqb (common_start a b) (length a) ≡ same a b
+unfolding same common_start
+same_common [] [] e = refl
+same_common [] (y ∷ b) e = absurd (omega arith)
+same_common (x ∷ a) [] e = absurd (omega arith)
+same_common (x ∷ a) (y ∷ b) e = go (same_common a b (omega arith)) (eqb x y)
+  where
+    go : eqb (common_start a b) (length a) ≡ same a b → (c : Bool) → eqb (cond c (suc (common_start a b)) 0) (suc (length a)) ≡ (c && same a b)
+    go rest true = eqb-suc-suc (common_start a b) (length a) ∙ rest
+    go rest false = eqb-zero-suc (length a)
 
 -- parts of two strings, compared by the first byte and the others, and by the first m bytes and the next n
 same_first : (a b : List ℕ) (i n : ℕ) → i < length a → i < length b
