@@ -1,7 +1,7 @@
 // The model in an image that keeps rule 1: each table as a part of the image.
 ghost use Rattle.std.specs.Prelude.{◌≡◌};
 ghost use Rattle.csdl.specs.Image.{model_in};
-ghost use Rattle.model_image.specs.Read.{model_read};
+ghost use Rattle.model_image.specs.Read.{TablesOf, model_read};
 ghost use Rattle.model_image.specs.Sized.{Sized};
 
 use crate::image::{counts_of, starts_of};
@@ -11,7 +11,8 @@ use packed::part_of;
 impl<'a> Model<'a> {
     pub fn read(image: &'a [u8]) -> Self
         requires { Sized image.now }
-        ensures { model_read result ≡ model_in image.now }
+        ensures value { model_read result ≡ model_in image.now }
+        ensures tables { TablesOf image.now result }
     {
         let at = starts_of(counts_of(image));
         Model {

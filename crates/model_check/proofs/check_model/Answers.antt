@@ -13,7 +13,7 @@ read-requires c = layout _ (sym c.bad_image.ensures ∙ c.if-bad_image.false)
 pub returns-then-resolution-segments : goal.returns-then-resolution-segments
 returns-then-resolution-segments c =
     let good = sym c.bad_image.ensures ∙ c.if-bad_image.false in
-    let all = answer_short _ _ good (short _ _ good (c.segment_count-segments.ensures.0 ∙ ap (λ (m : Model). m.segments) c.read.ensures) c.if-resolution-segments.true) in
+    let all = answer_short _ _ good (short _ _ good (c.segment_count-segments.ensures.0 ∙ ap (λ (m : Model). m.segments) c.read.ensures.value) c.if-resolution-segments.true) in
     record { result_value = all.0; resolution_after = all.1 }
 
 pub check_3_to_19-requires : goal.check_3_to_19-requires
@@ -22,14 +22,14 @@ check_3_to_19-requires c = (layout _ (sym c.bad_image.ensures ∙ c.if-bad_image
 pub returns-in_err-check_3_to_19 : goal.returns-in_err-check_3_to_19
 returns-in_err-check_3_to_19 c =
     let good = sym c.bad_image.ensures ∙ c.if-bad_image.false in
-    let room = roomy _ _ good (c.segment_count-segments.ensures.0 ∙ ap (λ (m : Model). m.segments) c.read.ensures) c.if-resolution-segments.false in
+    let room = roomy _ _ good (c.segment_count-segments.ensures.0 ∙ ap (λ (m : Model). m.segments) c.read.ensures.value) c.if-resolution-segments.false in
     let all = answer_refused _ _ good room _ c.in_err-check_3_to_19.ensures.value in
     record { result_value = grind (arith, all.0); resolution_after = all.1 }
 
 pub returns : goal.returns
 returns c =
     let good = sym c.bad_image.ensures ∙ c.if-bad_image.false in
-    let count = c.segment_count-segments.ensures.0 ∙ ap (λ (m : Model). m.segments) c.read.ensures in
+    let count = c.segment_count-segments.ensures.0 ∙ ap (λ (m : Model). m.segments) c.read.ensures.value in
     let room = roomy _ _ good count c.if-resolution-segments.false in
     record {
       result_value = answer_accepted _ _ good room c.in_ok-check_3_to_19.ensures.value _ count;

@@ -21,7 +21,7 @@ pub returns-in-Ok : goal.returns-in-Ok
 returns-in-Ok c =
     let means = c.check-answer.ensures.result_value in
     c.segment_lines.ensures ∙ rw (c.answer_line.ensures.after, c.new-text.ensures)
-    (accepted-text _ _ means _ c.in-Ok.is _ _ (omega arith) c.check-answer.ensures.resolution_after _ (rw c.read.ensures at c.segments_at-first.ensures.0))
+    (accepted-text _ _ means _ c.in-Ok.is _ _ (omega arith) c.check-answer.ensures.resolution_after _ (rw c.read.ensures.value at c.segments_at-first.ensures.0))
 
 pub returns-in_default : goal.returns-in_default
 returns-in_default c = rw (c.answer_line.ensures.after, c.new-text.ensures) (refused-text _ _ c.check-answer.ensures.result_value _ c.in_default.is)

@@ -15,4 +15,4 @@ pub read-requires : goal.read-requires
 read-requires c = layout _ (sym c.bad_image.ensures ∙ c.if-bad_image.false)
 
 pub returns : goal.returns
-returns c = rw (named _ _ (sym c.bad_image.ensures ∙ c.if-bad_image.false), ← c.read.ensures, ← c.in-Ok.ensures.1) c.name_at.ensures
+returns c = rw (named _ _ (sym c.bad_image.ensures ∙ c.if-bad_image.false), ← c.read.ensures.value, ← c.in-Ok.ensures.1) c.name_at.ensures
