@@ -2,7 +2,7 @@
 ghost use Rattle.std.specs.Prelude.{◌≡◌};
 ghost use Rattle.csdl.specs.Instance.{image20};
 
-use crate::read::items_end;
+use crate::tables::items_end;
 use csdl::VERSION;
 use packed::number_at;
 

@@ -15,11 +15,11 @@ read-instance-requires c =
 pub returns-in_err-check_21_to_26-clause-value : goal.returns-in_err-check_21_to_26-clause-value
 returns-in_err-check_21_to_26-clause-value c =
     let kept : image20 c.args.image.now ≡ false = cc in
-    let own = rw c.read-instance.ensures at c.in_err-check_21_to_26.ensures in
+    let own = rw c.read-instance.ensures.value at c.in_err-check_21_to_26.ensures in
     let stops = λ (o : Answer). own o ∙ sym (kept_20 (model_read c.args.model.now) c.args.image.now kept o) in grind (arith, stops)
 
 pub returns-clause-value : goal.returns-clause-value
 returns-clause-value c =
     let kept : image20 c.args.image.now ≡ false = cc in
-    let own = rw c.read-instance.ensures at c.in_ok-check_21_to_26.ensures in
+    let own = rw c.read-instance.ensures.value at c.in_ok-check_21_to_26.ensures in
     λ o. own o ∙ sym (kept_20 (model_read c.args.model.now) c.args.image.now kept o)

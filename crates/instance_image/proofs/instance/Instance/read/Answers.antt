@@ -4,11 +4,7 @@ use Rattle.instance_image.proofs.instance.Instance.read.Goals as goal
 
 pub returns : goal.returns
 unfolding instance_read instances.instance_in
-returns c = rw (
-  c.part_of.ensures,
-  c.part_of-2.ensures,
-  c.part_of-3.ensures,
-  c.items_end.ensures.0,
-  c.slots_end-items.ensures.0,
-  c.nodes_end-slots.ensures.0,
-)
+returns c = record {
+  value = rw (c.nodes_of.ensures, c.slots_of.ensures, c.items_of.ensures);
+  tables = record { nodes = c.nodes_of.ensures; slots = c.slots_of.ensures; items = c.items_of.ensures };
+}
