@@ -33,7 +33,7 @@ fn member_30(model: &Model, members: &Members, limits: &[u16], member: u16) -> b
         | misplaced(members.names, name)
         | name_5(members.names, limits, name)
         | (!members.given(member) & (members.value(member) != 0))
-        | !of_kind(model, TypeKind::Enumeration, t)
+        | !of_kind(model, TypeKind::Enumeration as u16, t)
 }
 
 // The first member that breaks rule 30.

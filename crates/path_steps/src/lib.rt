@@ -24,9 +24,9 @@ fn key_code(c: u16) -> bool
 fn key_type(model: &Model, x: u16) -> bool
     ensures { result ≡ key_type (model_read model.now) x }
 {
-    of_kind(model, TypeKind::Enumeration, x)
+    of_kind(model, TypeKind::Enumeration as u16, x)
         || (64 <= x && key_code(x - 64))
-        || (of_kind(model, TypeKind::Definition, x) && key_code(model.type_underlying(x)))
+        || (of_kind(model, TypeKind::Definition as u16, x) && key_code(model.type_underlying(x)))
 }
 
 // Whether p may be a step of a key's path before the last.

@@ -41,7 +41,7 @@ fn child_18(hierarchy: &Hierarchy, owners: u64, h: u16) -> bool
     let t = model.child_type(h);
     let set = !model.child_singleton(h);
     set & !has_key(hierarchy, owners, t)
-        | !of_kind(model, TypeKind::Entity, t)
+        | !of_kind(model, TypeKind::Entity as u16, t)
         | set & model.child_nullable(h)
 }
 

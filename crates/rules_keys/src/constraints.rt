@@ -28,8 +28,8 @@ fn both_complex(model: &Model, d: u16, r: u16) -> bool
 {
     !model.property_collection(d)
         & !model.property_collection(r)
-        & of_kind(model, TypeKind::Complex, model.property_type_ref(d))
-        & of_kind(model, TypeKind::Complex, model.property_type_ref(r))
+        & of_kind(model, TypeKind::Complex as u16, model.property_type_ref(d))
+        & of_kind(model, TypeKind::Complex as u16, model.property_type_ref(r))
 }
 
 // Whether d is not nullable though p or r is, or is though neither is (16f).

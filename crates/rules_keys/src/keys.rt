@@ -110,7 +110,7 @@ fn owner_or_path_fails(hierarchy: &Hierarchy, owners: u64, codes: &[u32], k: u16
     ensures { result ≡ owner_or_path_fails (model_read hierarchy.now.model) codes.now k }
 {
     let model = &hierarchy.model;
-    !of_kind(model, TypeKind::Entity, model.key_owner(k))
+    !of_kind(model, TypeKind::Entity as u16, model.key_owner(k))
         | key_above(hierarchy, owners, k)
         | key_codes(model, codes, k)
 }

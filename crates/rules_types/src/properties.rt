@@ -12,7 +12,7 @@ use type_hierarchy::kinds::{of_kind, structured};
 fn is_stream(model: &Model, x: u16) -> bool
     ensures { result ≡ rules.is_stream (model_read model.now) x }
 {
-    (x == 79) | (of_kind(model, TypeKind::Definition, x) & (model.type_underlying(x) == 15))
+    (x == 79) | (of_kind(model, TypeKind::Definition as u16, x) & (model.type_underlying(x) == 15))
 }
 
 // 10a to 10d: owner and type, and containment.
@@ -21,7 +21,7 @@ fn kinds_misfit(model: &Model, p: u16) -> bool
 {
     let owned = structured(model, model.property_owner(p));
     let navigation = model.property_navigation(p);
-    let entity = of_kind(model, TypeKind::Entity, model.property_type_ref(p));
+    let entity = of_kind(model, TypeKind::Entity as u16, model.property_type_ref(p));
     !owned
         | (navigation & !entity)
         | (!navigation & entity)
@@ -38,7 +38,7 @@ fn flags_misfit(model: &Model, p: u16) -> bool
     (!navigation & paired)
         | (navigation & collection & model.property_nullable(p))
         | (collection & is_stream(model, model.property_type_ref(p)))
-        | (paired & of_kind(model, TypeKind::Complex, model.property_owner(p)))
+        | (paired & of_kind(model, TypeKind::Complex as u16, model.property_owner(p)))
 }
 
 // Whether the property breaks rule 10.

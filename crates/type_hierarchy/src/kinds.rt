@@ -2,16 +2,15 @@
 ghost use Rattle.model_image.specs.Read.{model_read};
 ghost use Rattle.std.specs.Prelude.{◌≡◌};
 ghost use Rattle.csdl.specs.Find as find;
-ghost use Rattle.csdl.specs.Kinds.{kind_number};
 
 use csdl::TypeKind;
 use model_image::model::Model;
 
 // Whether x is a type of the kind.
-pub fn of_kind(model: &Model, kind: TypeKind, x: u16) -> bool
-    ensures { result ≡ find.of_kind (model_read model.now) (kind_number kind) x }
+pub fn of_kind(model: &Model, kind: u16, x: u16) -> bool
+    ensures { result ≡ find.of_kind (model_read model.now) kind x }
 {
-    (x < model.type_count()) & (model.type_kind(x) == kind as u16)
+    (x < model.type_count()) & (model.type_kind(x) == kind)
 }
 
 // Whether x is an entity or complex type.

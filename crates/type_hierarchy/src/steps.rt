@@ -11,7 +11,8 @@ use model_image::model::Model;
 pub fn complex_step(model: &Model, p: u16) -> bool
     ensures { result ≡ find.complex_step (model_read model.now) p }
 {
-    !model.property_navigation(p) & of_kind(model, TypeKind::Complex, model.property_type_ref(p))
+    !model.property_navigation(p)
+        & of_kind(model, TypeKind::Complex as u16, model.property_type_ref(p))
 }
 
 // Whether p is a navigation property that contains.
