@@ -74,8 +74,8 @@ module _ (test : ℕ → ℕ → Bool) where
       rw (tab-at (λ u. cond (ltb u n) (set_of (λ a. test u a) 64) 0) 0 64 t (omega arith), lt-ltb t n l) (λ a k. member-set (λ b. test t b) 64 a k)
 
 module _ (types : List ℕ) (t : ℕ) where
-  pub ancestors_row : t < 64 → Members 64 (get_or (ancestors_of types) t 0) (λ a. climb (λ u. type_base types u) (type_count types) a t)
-  ancestors_row l = rows_row (λ t a. climb (λ u. type_base types u) (type_count types) a t) 64 t (omega arith) l
+  pub ancestors_row : t < type_count types → length types ≤ 384 → Members 64 (get_or (ancestors_of types) t 0) (λ a. climb (λ u. type_base types u) (type_count types) a t)
+  ancestors_row l few = rows_row (λ t a. climb (λ u. type_base types u) (type_count types) a t) (type_count types) t (omega (arith, few)) l
 
   pub ancestors_past : 64 ≤ t → length types ≤ 384 → Members 64 0 (λ a. climb (λ u. type_base types u) (type_count types) a t)
   ancestors_past l few = λ a h. member-none a ∙ climb-none (λ u. type_base types u) t 0 (sym (base_past types t (omega (arith, l, few)))) a (type_count types) refl

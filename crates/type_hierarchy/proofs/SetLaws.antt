@@ -3,12 +3,13 @@ use Prim.Native.Nat.{ℕ, zero, suc, ◌+◌, ◌*◌, ◌/◌, ◌%◌, ◌^◌
 use mathlib.Core.Path.{◌≡◌, refl, sym, ◌∙◌}
 use mathlib.Core.Bool.{Bool, true, false, not, ◌&&◌, ◌||◌, and-true, and-false, or-false}
 use native.Mathlib.Nat.{pow-suc, one-mul, zero-mul, zero-div, div-one, div-eq_of_lt, mul-mod_left, not-suc-le-zero, pow-zero, mod-one, mod-eq_of_lt}
+use native.Mathlib.Numerals.{add-one}
 use native.Mathlib.Omega.{arith}
 use borrow.Author.Count.{below_more}
 use borrow.Author.Tests.{eq-eqb, ne_eqb}
 use lib.Dec.{eqb, eqb-zero-suc, eqb-suc-zero, eqb-suc-suc}
-use lib.Bits.{bit_and, bit_or, and_shr, and_mod, and_le_l, or_shr, or_mod, or_shifted}
-use lib.Pow.{shr-shr, mod-pow-add}
+use lib.Bits.{bit_and, bit_or, and_shr, and_mod, and_le_l, or_shr, or_mod, or_shifted, or_shifted_r}
+use lib.Pow.{shl_exact, shr-shr, mod-pow-add}
 use Rattle.csdl.specs.Search.{any_from, one_if}
 use Rattle.csdl.proofs.Logic.{any_found, any_none, true-false}
 use Rattle.type_hierarchy.specs.Sets.{member, set_of, Members}
@@ -85,6 +86,22 @@ member-set test (suc n) t h =
     (λ k l. set-suc test n k ∙ rw (ne_eqb n k (λ e. omega arith), and-false (test n)) (member-set test n k l))
     (set-suc test n n ∙ rw (eq-eqb n n refl, and-true (test n), member_past (set_of test n) n (set-lt test n)) (or-false (test n)))
     t (omega arith)
+
+one_if_lt : (b : Bool) → one_if b < 2
+one_if_lt true = omega arith
+one_if_lt false = omega arith
+
+-- The code's next set: one number more, behind the others.
+pub set-start : (test : ℕ → Bool) → ◌≡◌ {A = ℕ} 0 (set_of test 0)
+unfolding set_of
+set-start test = refl
+
+pub set_next : (test : ℕ → Bool) (n : ℕ) (b : Bool) (s m : ℕ) → n < 64 → s ≡ set_of test n → b ≡ test n → m ≡ one_if b
+    → bit_or s ((m * 2 ^ n) % 2 ^ 64) ≡ set_of test (n + 1)
+unfolding set_of
+set_next test n b s m h e q d =
+    rw (d, q, e, shl_exact {a = one_if (test n)} 1 n 64 (one_if_lt (test n)) (omega arith), add-one n)
+    (or_shifted_r (one_if (test n)) n (set_of test n) (set-lt test n))
 
 pub set_same : (f g : ℕ → Bool) (n : ℕ) → ((k : ℕ) → k < n → f k ≡ g k) → set_of f n ≡ set_of g n
 unfolding set_of

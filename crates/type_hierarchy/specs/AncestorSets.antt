@@ -11,4 +11,4 @@ rows_to test n = tab (λ t. cond (ltb t n) (set_of (λ a. test t a) 64) 0) 0 64
 
 -- For each type its ancestors.
 abbrev pub ancestors_of : List ℕ → List ℕ
-ancestors_of types = rows_to (λ t a. climb (λ u. type_base types u) (type_count types) a t) 64
+ancestors_of types = rows_to (λ t a. climb (λ u. type_base types u) (type_count types) a t) (type_count types)

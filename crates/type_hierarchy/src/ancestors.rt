@@ -1,7 +1,8 @@
-// The ancestors of each type as a set.
+// The ancestors of a type as a set, of one type or of all.
 ghost use Rattle.model_image.specs.Read.{model_read};
 ghost use Rattle.std.specs.Prelude.{◌≡◌, ◌||◌, ℕ, ◌≤◌, ◌<◌, get_or};
 ghost use Rattle.csdl.specs.Climb.{climb};
+ghost use Rattle.csdl.specs.Find.{ancestor};
 ghost use Rattle.type_hierarchy.specs.Sets.{member, Members};
 ghost use Rattle.type_hierarchy.specs.AncestorSets.{ancestors_of};
 
@@ -35,14 +36,26 @@ fn with_above(bases: &[u16; 128], set: u64, t: u16, left: u16) -> u64
     with_above(bases, with_one(set, base - 1), base - 1, left - 1)
 }
 
-// For each type its ancestors.
+// The ancestors of t; a number above 63 is no type's. It is asked of numbers past the last type alone, and stays out of its callers.
+#[inline(never)]
+pub(crate) fn ancestors_of(model: &Model, t: u16) -> u64
+    ensures { (a : ℕ) → a < 64 → member result a ≡ ancestor (model_read model.now) a t }
+{
+    if t < 64 {
+        let bases = bases_of(model);
+        return with_above(&bases, 0, t, model.type_count());
+    }
+    0
+}
+
+// For each type its ancestors; 0 past the last type.
 pub fn all_ancestors(model: &Model) -> [u64; 64]
     ensures { result ≡ ancestors_of model.now.types.now }
 {
     let count = model.type_count();
     let bases = bases_of(model);
     let mut ancestors = [0u64; 64];
-    for t in 0..64 {
+    for t in 0..count {
         ancestors[t as usize] = with_above(&bases, 0, t, count);
     }
     ancestors

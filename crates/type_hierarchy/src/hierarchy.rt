@@ -5,7 +5,7 @@ ghost use Rattle.csdl.specs.Find.{ancestor, ancestor_or_self};
 ghost use Rattle.type_hierarchy.specs.Sets.{member};
 ghost use Rattle.type_hierarchy.specs.AncestorSets.{ancestors_of};
 
-use crate::ancestors::all_ancestors;
+use crate::ancestors::{all_ancestors, ancestors_of};
 use crate::bases;
 use crate::type_sets::{in_set, with_one};
 use model_image::model::Model;
@@ -29,14 +29,14 @@ impl<'a> Hierarchy<'a> {
         }
     }
 
-    // The ancestors of t; a number above 63 is no type's.
+    // The ancestors of t.
     pub fn ancestors_at(&self, t: u16) -> u64
         ensures { (a : ℕ) → a < 64 → member result a ≡ ancestor (model_read self.now.model) a t }
     {
-        if t < 64 {
+        if t < self.model.type_count() {
             return self.ancestors[t as usize];
         }
-        0
+        ancestors_of(&self.model, t)
     }
 
     // t and its ancestors.

@@ -6,7 +6,7 @@ use Rattle.type_hierarchy.specs.AncestorSets.{rows_to}
 use Rattle.type_hierarchy.proofs.ancestors.all_ancestors.Given as goal
 
 abbrev pub invariant-loop-t : goal.invariant-loop-t
-invariant-loop-t l = (l.t ≤ 64) × (l.ancestors ≡ rows_to (λ t a. climb (λ u. type_base l.model.types.now u) l.count a t) l.t)
+invariant-loop-t l = (l.t ≤ l.count) × (l.count ≤ 64) × (l.ancestors ≡ rows_to (λ t a. climb (λ u. type_base l.model.types.now u) l.count a t) l.t)
 
 abbrev pub decreases-loop-t : goal.decreases-loop-t
-decreases-loop-t l = 64 - l.t
+decreases-loop-t l = l.count - l.t
