@@ -1,13 +1,13 @@
 // Rule 7: types of one schema and children do not repeat a name. Each has its own functions: the contract of a generic one, which has to say what its
 // closures answer, would be longer than the two bodies.
-ghost use Rattle.std.specs.Prelude.{◌≡◌, ◌<◌};
+ghost use Rattle.std.specs.Prelude.{◌≡◌, ◌+◌, ◌≤◌};
 ghost use Rattle.csdl.specs.Form as rules;
 ghost use Rattle.csdl.specs.Search.{first_from, found};
 ghost use Rattle.model_image.specs.Read.{model_read};
 ghost use Rattle.rules_names.specs.Digests.{type_fingerprint, child_fingerprint, Fingerprinted};
 ghost use Rattle.rules_names.specs.Repeats.{same_child};
 
-use crate::digests::{fingerprint_of, fingerprints};
+use crate::digests::fingerprint_of;
 use model_image::model::Model;
 use packed::same_bytes;
 
@@ -26,23 +26,10 @@ fn child_fingerprint(model: &Model, h: u16) -> u64
     fingerprint_of(0, model.child_text(h))
 }
 
-// Those of all types, and of all children.
-fn type_fingerprints(model: &Model) -> [u64; 64]
-    ensures { Fingerprinted (λ t. type_fingerprint (model_read model.now) t) (model_read model.now).types result }
-{
-    fingerprints(model.type_count(), |t| type_fingerprint(model, t))
-}
-
-fn child_fingerprints(model: &Model) -> [u64; 64]
-    ensures { Fingerprinted (λ h. child_fingerprint (model_read model.now) h) (model_read model.now).children result }
-{
-    fingerprints(model.child_count(), |h| child_fingerprint(model, h))
-}
-
 // Whether type u has the schema and the name of type t; asked of their fingerprints first.
 #[tactic(auto, unfolding(csdl::specs::Form::same_type))]
 fn same_type(model: &Model, fingerprints: &[u64], t: u16, u: u16) -> bool
-    requires { (u < (model_read model.now).types) × (t < (model_read model.now).types) × Fingerprinted (λ v. type_fingerprint (model_read model.now) v) (model_read model.now).types fingerprints.now }
+    requires { (u ≤ t) × Fingerprinted (λ v. type_fingerprint (model_read model.now) v) (t + 1) fingerprints.now }
     ensures { result ≡ rules.same_type (model_read model.now) t u }
 {
     fingerprints[u as usize] == fingerprints[t as usize]
@@ -52,7 +39,7 @@ fn same_type(model: &Model, fingerprints: &[u64], t: u16, u: u16) -> bool
 
 // 7a: the type has the name of an earlier type of its schema.
 fn type_7(model: &Model, fingerprints: &[u64], t: u16) -> bool
-    requires { (t < (model_read model.now).types) × Fingerprinted (λ v. type_fingerprint (model_read model.now) v) (model_read model.now).types fingerprints.now }
+    requires { Fingerprinted (λ v. type_fingerprint (model_read model.now) v) (t + 1) fingerprints.now }
     ensures { result ≡ rules.type7a (model_read model.now) t }
 {
     (0..t).any(|u| same_type(model, fingerprints, t, u))
@@ -60,7 +47,7 @@ fn type_7(model: &Model, fingerprints: &[u64], t: u16) -> bool
 
 // Whether child j has the name of child h; asked of their fingerprints first.
 fn same_child(model: &Model, fingerprints: &[u64], h: u16, j: u16) -> bool
-    requires { (j < (model_read model.now).children) × (h < (model_read model.now).children) × Fingerprinted (λ v. child_fingerprint (model_read model.now) v) (model_read model.now).children fingerprints.now }
+    requires { (j ≤ h) × Fingerprinted (λ v. child_fingerprint (model_read model.now) v) (h + 1) fingerprints.now }
     ensures { result ≡ same_child (model_read model.now) h j }
 {
     fingerprints[j as usize] == fingerprints[h as usize]
@@ -69,7 +56,7 @@ fn same_child(model: &Model, fingerprints: &[u64], h: u16, j: u16) -> bool
 
 // 7b: the child has the name of an earlier child.
 fn child_7(model: &Model, fingerprints: &[u64], h: u16) -> bool
-    requires { (h < (model_read model.now).children) × Fingerprinted (λ v. child_fingerprint (model_read model.now) v) (model_read model.now).children fingerprints.now }
+    requires { Fingerprinted (λ v. child_fingerprint (model_read model.now) v) (h + 1) fingerprints.now }
     ensures { result ≡ rules.child7b (model_read model.now) h }
 {
     (0..h).any(|j| same_child(model, fingerprints, h, j))
@@ -79,14 +66,26 @@ fn child_7(model: &Model, fingerprints: &[u64], h: u16) -> bool
 pub fn first_type_7(model: &Model) -> Option<u16>
     ensures { result ≡ found (first_from (λ t. rules.type7a (model_read model.now) t) 0 ((model_read model.now).types)) }
 {
-    let fingerprints = type_fingerprints(model);
-    (0..model.type_count()).find(|t| type_7(model, &fingerprints, *t))
+    let mut fingerprints = [1u64; 64];
+    for t in 0..model.type_count() {
+        fingerprints[t as usize] = type_fingerprint(model, t);
+        if type_7(model, &fingerprints, t) {
+            return Some(t);
+        }
+    }
+    None
 }
 
 // The first child that breaks rule 7.
 pub fn first_child_7(model: &Model) -> Option<u16>
     ensures { result ≡ found (first_from (λ h. rules.child7b (model_read model.now) h) 0 ((model_read model.now).children)) }
 {
-    let fingerprints = child_fingerprints(model);
-    (0..model.child_count()).find(|h| child_7(model, &fingerprints, *h))
+    let mut fingerprints = [1u64; 64];
+    for h in 0..model.child_count() {
+        fingerprints[h as usize] = child_fingerprint(model, h);
+        if child_7(model, &fingerprints, h) {
+            return Some(h);
+        }
+    }
+    None
 }
