@@ -10,20 +10,20 @@ use crate::wide::with_wide;
 use model_image::model::Model;
 use type_hierarchy::nearness::nearness_of;
 
-// What each name means at t, at the place of the name's entry.
-fn meaning_of(model: &Model, index: &[u16], t: u16) -> [Option<u16>; 513]
+// What each name means at t, at the place of the name's entry: 0 for none, else the property's number plus 1.
+fn meaning_of(model: &Model, index: &[u16], t: u16) -> [u16; 513]
     requires { (t < 128) × (length index.now ≡ 1793) × ((p : ℕ) → p < (model_read model.now).properties → get_or index.now (512 + p) 0 < 513) }
     ensures { specs.Meaning model.now.types.now model.now.properties.now index.now t result }
 {
     let nearness = nearness_of(model, t);
-    let mut nearest: [Option<u16>; 513] = [None; 513];
+    let mut nearest = [0u16; 513];
     let mut near = [0u16; 513];
     for p in 0..model.property_count() {
         let h = index[512 + (p as usize)] as usize;
         let left = nearness[model.property_owner(p) as usize];
         if near[h] < left {
             near[h] = left;
-            nearest[h] = Some(p);
+            nearest[h] = p + 1;
         }
     }
     nearest
@@ -37,7 +37,7 @@ pub fn names_of(model: &Model, index: &[u16], t: u16) -> [u64; 8]
     let nearest = meaning_of(model, index, t);
     let mut set = [0u64; 8];
     for p in 0..model.property_count() {
-        if nearest[index[512 + (p as usize)] as usize] == Some(p) {
+        if nearest[index[512 + (p as usize)] as usize] == p + 1 {
             // By a name of its own: the check takes no call's array straight into a variable that was lent.
             let next = with_wide(set, p);
             set = next;

@@ -1,8 +1,10 @@
 use Prim.Native.Nat.{ℕ}
 use mathlib.Core.Path.{◌≡◌, refl, sym, ◌∙◌}
 use mathlib.Core.Bool.{Bool, true, false}
+use native.Mathlib.Numerals.{add-one}
 use native.Mathlib.Omega.{arith}
 use borrow.Author.Rules.{rules}
+use borrow.Author.Tests.{eq-eqb, ne_eqb}
 use Rattle.csdl.specs.Find.{is_name_of}
 use Rattle.csdl.specs.Model.{model_of}
 use Rattle.model_image.specs.Read.{model_read}
@@ -10,7 +12,7 @@ use Rattle.name_classes.proofs.Ranks.{few_properties}
 use Rattle.type_names.proofs.WideLaws.{wide-none, below_with, below_without, below_none}
 use Rattle.type_names.proofs.Meanings.{entry_lt, name_meant}
 use Rattle.type_names.proofs.members.names_of.Goals as goal
-use Rattle.type_names.proofs.members.names_of.Goals.{then-eq, else-eq}
+use Rattle.type_names.proofs.members.names_of.Goals.{then-nearest-index, else-nearest-index}
 
 pub meaning_of-nearest-requires : goal.meaning_of-nearest-requires
 unfolding model_read model_of
@@ -28,12 +30,12 @@ unfolding model_read model_of
 loop-p-preserved c =
     let test : ℕ → Bool = (λ q. is_name_of (model_read c.args.model.now) c.args.t q) in
     let e = name_meant c.args.model.now c.args.index.now c.args.t c.requires.1 c.loop-p.p (omega arith) c.meaning_of-nearest.result (few_properties c.args.model.now) c.meaning_of-nearest.ensures in
-    elim c.if-eq.branch [
-      | then-eq w ↦ (
-          let t : test c.loop-p.p ≡ true = sym e ∙ sym c.eq.ensures ∙ w.if-eq.true in
+    elim c.if-nearest-index.branch [
+      | then-nearest-index w ↦ (
+          let t : test c.loop-p.p ≡ true = sym e ∙ eq-eqb _ _ (w.if-nearest-index.true ∙ add-one c.loop-p.p) in
           rw w.set-is (w.with_wide-next.ensures.0, λ q h. w.with_wide-next.ensures.1 q h ∙ rw (c.loop-p.invariant.1 q h) (below_with test c.loop-p.p q t)))
-      | else-eq w ↦ (
-          let t : test c.loop-p.p ≡ false = sym e ∙ sym c.eq.ensures ∙ w.if-eq.false in
+      | else-nearest-index w ↦ (
+          let t : test c.loop-p.p ≡ false = sym e ∙ ne_eqb _ _ (λ y. w.if-nearest-index.false (y ∙ sym (add-one c.loop-p.p))) in
           rw w.set-is (c.loop-p.invariant.0, λ q h. c.loop-p.invariant.1 q h ∙ below_without test c.loop-p.p q t))
     ]
 
