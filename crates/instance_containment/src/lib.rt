@@ -72,8 +72,11 @@ fn held_by(instance: &Instance, inside: bool, k: u16) -> Option<u16>
     ensures value { result ≡ found (graph.held_if (instance_read instance.now) inside k) }
     ensures bound { IfSome result (λ w. w < 256) }
 {
+    if !inside {
+        return None;
+    }
     let handle = instance.item_handle(k);
-    if handle < instance.node_count() as u32 && !is_null(instance, k) && inside {
+    if handle < instance.node_count() as u32 && !is_null(instance, k) {
         return Some(handle as u16);
     }
     None

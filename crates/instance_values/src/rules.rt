@@ -49,7 +49,7 @@ fn slot_24(model: &Model, instance: &Instance, s: u16) -> bool
 pub fn is_null(instance: &Instance, k: u16) -> bool
     ensures { result ≡ is_null (instance_read instance.now) k }
 {
-    (instance.item_ref(k) == 255) & (instance.item_handle(k) == 0)
+    instance.item_ref(k) == 255 && instance.item_handle(k) == 0
 }
 
 // Whether item k carries its node's type, at type u, and the node's number.
