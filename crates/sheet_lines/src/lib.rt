@@ -31,7 +31,8 @@ pub fn accepted_line<const N: usize>(text: &mut ArrayString<N>, segments: u16)
 
 pub fn refused_line<const N: usize>(text: &mut ArrayString<N>, rule: u16, place: u16)
     requires { array_string_len text.old + 26 ≤ N }
-    ensures { text.new.bytes ≡ text.old.bytes ++ refused_line rule place }
+    ensures after { text.new.bytes ≡ text.old.bytes ++ refused_line rule place }
+    ensures bound { array_string_len text.new ≤ array_string_len text.old + 26 }
 {
     text.push_str("refused ");
     put_number(text, rule);
