@@ -2,7 +2,8 @@
 // named on standard error, with the reason. No contract can say which bytes are read; these say that they fit into the arrays.
 #![tactic(auto)]
 
-ghost use Rattle.std.specs.Prelude.{◌≡◌, ◌≤◌, length, take, IfOk, IfSome};
+ghost use Rattle.std.specs.Borrow.{Bor};
+ghost use Rattle.std.specs.Prelude.{◌≡◌, ◌≤◌, ℕ, Bool, List, length, IfOk, IfSome};
 
 use std::env::FillError;
 use std::io::{ErrorKind, Read};
@@ -113,7 +114,9 @@ fn read_named<'a>(
     rt: &(impl Eprint + Alloc + io::Input + Files),
     name: &[u8],
     array: &'a mut [u8; IMAGE_SIZE],
-) -> Option<&'a [u8]> {
+) -> Option<&'a [u8]>
+    ensures { IfSome result (λ image. length image.now ≤ length array.old) }
+{
     if name == b"-".as_slice() {
         return read_image(rt, &mut rt.reader(), b"standard input", array);
     }
@@ -133,11 +136,9 @@ fn has_argument(rt: &impl Env, i: usize) -> bool {
 }
 
 // Argument i, if it can be had, put into the array.
-fn argument<'a>(
-    rt: &(impl Eprint + Alloc + Env),
-    i: usize,
-    array: &'a mut [u8],
-) -> Option<&'a [u8]> {
+fn argument<'a>(rt: &(impl Eprint + Alloc + Env), i: usize, array: &'a mut [u8]) -> Option<&'a [u8]>
+    ensures { IfSome result (λ name. length name.now ≤ length array.old) }
+{
     match rt.arg(i, array) {
         Ok(n) => Some(&array[..n]),
         Err(error) => {
@@ -173,7 +174,8 @@ fn heading(rt: &(impl Print + Eprint + Alloc), name: &[u8], several: bool) -> bo
 
 // Shows the image on standard input.
 fn show_input<R: Eprint + Alloc + io::Input, F: Fn(&[u8], bool)>(rt: &R, show: &F)
-    requires { F.IsAlwaysCallable show.now }
+    requires { (image : Bor (List ℕ)) (several : Bool)
+        → length image.now ≤ 13349 → F.pre show.now image several }
 {
     let mut array = [0u8; IMAGE_SIZE];
     if let Some(image) = read_image(rt, &mut rt.reader(), b"standard input", &mut array) {
@@ -188,7 +190,8 @@ fn show_argument<R: Print + Eprint + Alloc + io::Input + Files + Env, F: Fn(&[u8
     several: bool,
     show: &F,
 )
-    requires { F.IsAlwaysCallable show.now }
+    requires { (image : Bor (List ℕ)) (several : Bool)
+        → length image.now ≤ 13349 → F.pre show.now image several }
 {
     let mut name_array = [0u8; NAME_SIZE];
     let Some(name) = argument(rt, i, &mut name_array) else {
@@ -208,7 +211,8 @@ pub fn for_each_image<R: Print + Eprint + Alloc + io::Input + Files + Env, F: Fn
     rt: &R,
     show: F,
 )
-    requires { F.IsAlwaysCallable show }
+    requires { (image : Bor (List ℕ)) (several : Bool)
+        → length image.now ≤ 13349 → F.pre show image several }
 {
     if !has_argument(rt, 1) {
         show_input(rt, &show);
