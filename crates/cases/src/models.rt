@@ -1,4 +1,6 @@
 // The check of a stored model.
+ghost use Rattle.std.specs.Prelude.{◌≤◌, length};
+
 use crate::{line, print};
 use csdl::Refusal;
 use input::IMAGE_SIZE;
@@ -13,7 +15,9 @@ pub fn load<'a>(
     rt: &(impl Print + Eprint + Alloc + Files),
     path: &[u8],
     array: &'a mut [u8],
-) -> &'a [u8] {
+) -> &'a [u8]
+    ensures { length result.now ≤ length array.old }
+{
     match input::open(rt, path) {
         Ok(mut file) => input::fill(&mut file, array).bytes,
         Err(error) => {
