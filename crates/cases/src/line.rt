@@ -1,4 +1,6 @@
 // A line of the list: columns of text, padded with blanks, and of decimal digits.
+ghost use Rattle.std.specs.Prelude.{◌≤◌};
+
 // The bytes of a line, its end with them.
 pub const SIZE: usize = 190;
 
@@ -60,6 +62,8 @@ fn number(digits: &[u8]) -> u32 {
         .fold(0, |n: u32, b| n.wrapping_mul(10).wrapping_add(digit(*b)))
 }
 
-fn digit(b: u8) -> u32 {
+fn digit(b: u8) -> u32
+    ensures { result ≤ 9 }
+{
     char::from(b).to_digit(10).unwrap_or(0)
 }
