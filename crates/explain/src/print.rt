@@ -35,11 +35,16 @@ pub fn joined(rt: &impl Output, between: &[u8], name: &[u8]) {
 // Text in a column of 20 bytes and a blank, or as many as it has.
 pub fn column(rt: &impl Output, s: &[u8]) {
     text(rt, s);
-    let blanks = [b' '; 21];
+    text(rt, b" ");
+    let blanks = [b' '; 20];
     text(rt, &blanks[s.len().min(20)..]);
 }
 
 // A number to the right of a column of 7 bytes, and two blanks.
 pub fn right(rt: &impl Output, n: u16) {
-    let _ = print!(rt; "{n:>7}  ");
+    let blanks = [b' '; 6];
+    let more_digits = n.checked_ilog10().unwrap_or(0);
+    text(rt, &blanks[more_digits as usize..]);
+    let _ = rt.print(n);
+    text(rt, b"  ");
 }
