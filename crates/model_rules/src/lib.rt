@@ -3,7 +3,7 @@
 
 mod lowest;
 
-ghost use Rattle.std.specs.Prelude.{◌≡◌, ◌+◌, ◌<◌, ◌≤◌, ℕ, length, get_or, OnOk, MatchResult};
+ghost use Rattle.std.specs.Prelude.{◌≡◌, ◌≢◌, ◌+◌, ◌<◌, ◌≤◌, ℕ, length, get_or, IfErr, OnOk, MatchResult};
 ghost use Rattle.std.specs.Option.{ForSome, option_map};
 ghost use Rattle.csdl.specs.Accepted.{Kept};
 ghost use Rattle.csdl.specs.Form.{rule4};
@@ -59,11 +59,12 @@ pub fn check_6_to_10(model: &Model) -> Result<(), Refusal>
     refused_at(10, lowest_10(model))
 }
 
-// Where none is broken, the codes of all segments are kept; nothing else changes in the table of codes.
+// Once rules 11 to 13 are unbroken, rule 14 keeps the codes of all segments; nothing else changes in the table of codes.
 pub fn check_11_to_14(lookup: &Lookup, codes: &mut [u32]) -> Result<(), Refusal>
     requires { Kept (model_read lookup.now.hierarchy.model) rule4 × (length codes.old ≡ 1024) }
     ensures value { (o : Answer) → MatchResult result (λ _. o ≡ verdict (places (model_read lookup.now.hierarchy.model)) (stages_11_to_14 (model_read lookup.now.hierarchy.model)) o) (λ r. refused r.rule r.place ≡ verdict (places (model_read lookup.now.hierarchy.model)) (stages_11_to_14 (model_read lookup.now.hierarchy.model)) o) }
     ensures coded { OnOk result (Coded (model_read lookup.now.hierarchy.model) codes.new) }
+    ensures err { IfErr result (λ r. (r.rule ≢ 14 → codes.new ≡ codes.old) × (r.rule ≡ 14 → Coded (model_read lookup.now.hierarchy.model) codes.new)) }
     ensures codes_len_unchanged { (length codes.new ≡ length codes.old) × ((g : ℕ) → (model_read lookup.now.hierarchy.model).segments ≤ g → get_or codes.new g 0 ≡ get_or codes.old g 0) }
 {
     refused_at(11, lowest_11(lookup))?;
