@@ -2,8 +2,11 @@
 // For more than one argument each sheet stands under a line with its name. What cannot be read gets no sheet.
 #![tactic(auto)]
 
+use arrayvec::ArrayString;
+
 fn print_sheet(rt: &(impl Print + Eprint + Alloc), image: &[u8]) {
-    let text = sheet::mark_sheet(image);
+    let mut text = ArrayString::new();
+    sheet::mark_sheet(image, &mut text);
     input::written(rt, text.as_str().as_bytes());
 }
 

@@ -60,17 +60,16 @@ pub fn first_line(image: &[u8], resolution: &mut [u8; RESOLUTION_SIZE]) -> Marke
     Marked { answer, line }
 }
 
-// The sheet.
-pub fn mark_sheet(image: &[u8]) -> ArrayString<SHEET_SIZE>
-    ensures { result.bytes ≡ mark_text image.now }
+// Puts the sheet into the text, in place of what is there.
+pub fn mark_sheet(image: &[u8], text: &mut ArrayString<SHEET_SIZE>)
+    ensures { text.new.bytes ≡ mark_text image.now }
 {
     let mut resolution = [0u8; RESOLUTION_SIZE];
     let answer = check(image, &mut resolution);
-    let mut text = ArrayString::new();
-    answer_line(&mut text, answer);
+    text.clear();
+    answer_line(text, answer);
     if let Ok(segments) = answer {
         let first = Model::read(image).segments_at();
-        segment_lines(&mut text, &resolution, first, segments);
+        segment_lines(text, &resolution, first, segments);
     }
-    text
 }
