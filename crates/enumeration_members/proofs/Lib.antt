@@ -1,4 +1,5 @@
 pub mod Earlier
+pub mod Halving
 pub mod Keys
 pub mod Clauses
 pub mod Signs

@@ -21,14 +21,25 @@ fn earlier_before(members: &Members, earlier: u16, t: u16, name: &[u8]) -> bool
     comes_before(members.text(earlier), name)
 }
 
-// Where a member stands among the earlier ones.
+// Where a member stands among the earlier ones. The library's `partition_point` asks of one entry more.
 pub(crate) fn position(members: &Members, order: &[u16], member: u16) -> u16
     requires { (length order.now ≤ 1024) × Sorted (λ r. member_key (members_read members.now) r) order.now (length order.now) }
     ensures { Stands (λ r. member_key (members_read members.now) r) order.now (length order.now) (member_key (members_read members.now) member) result }
 {
     let t = members.member_type(member);
     let name = members.text(member);
-    order.partition_point(|earlier| earlier_before(members, *earlier, t, name)) as u16
+    let mut low: u16 = 0;
+    let mut high = order.len() as u16;
+    while low < high {
+        let mid = (low + high) / 2;
+        let earlier = order[mid as usize];
+        if earlier_before(members, earlier, t, name) {
+            low = mid + 1;
+        } else {
+            high = mid;
+        }
+    }
+    low
 }
 
 // Whether an earlier member has the type and the name of the member.

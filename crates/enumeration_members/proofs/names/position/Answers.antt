@@ -1,15 +1,16 @@
-use Rattle.std.proofs.Common.{ℕ, List, ◌∷◌, rules}
-use Rattle.std.proofs.lemmas.List.Sorted.{IsPartitionPoint-from_clause}
-use Rattle.name_classes.specs.Order.{before}
-use Rattle.name_classes.proofs.Sorting.{parted, stands}
-use Rattle.enumeration_members.specs.Earlier.{member_key}
-use Rattle.enumeration_members.specs.Read.{members_read}
+use native.Mathlib.Omega.{arith}
+use Rattle.enumeration_members.proofs.Halving.{between_start, between_up, between_down, between_end}
 use Rattle.enumeration_members.proofs.names.position.Goals as goal
 
+pub loop-low-init : goal.loop-low-init
+loop-low-init c = (c.requires.1, between_start _ _ _ _ _, c.requires.0)
+
+pub loop-low-preserved-then-earlier_before : goal.loop-low-preserved-then-earlier_before
+loop-low-preserved-then-earlier_before c = (c.loop-low.invariant.0, between_up _ _ _ _ _ _ _ _ c.loop-low.invariant.1 (omega arith) (omega arith) _ c.earlier_before.ensures c.if-earlier_before.true, c.loop-low.invariant.2)
+
+pub loop-low-preserved : goal.loop-low-preserved
+loop-low-preserved c = (c.loop-low.invariant.0, between_down _ _ _ _ _ _ _ _ c.loop-low.invariant.1 (omega arith) (omega arith) _ c.earlier_before.ensures c.if-earlier_before.false, c.loop-low.invariant.2)
+
 pub returns : goal.returns
-returns c =
-    let key : ℕ → List ℕ = λ r. member_key (members_read c.args.members.now) r in
-    let sought : List ℕ = c.member_type-t.result ∷ c.text-name.result.now in
-    rw (← c.member_type-t.ensures.0, ← c.text-name.ensures)
-    (stands key _ c.requires.1 sought _ c.partition_point.ensures.bound
-    (IsPartitionPoint-from_clause (λ p. before (key p) sought) _ _ c.partition_point.ensures.partitioned (parted key _ c.requires.1 sought) (λ a r q k. search rules)))
+returns c = rw (← c.member_type-t.ensures.0, ← c.text-name.ensures)
+    (between_end _ _ _ _ _ _ _ c.loop-low.invariant.1 (omega arith))
