@@ -37,7 +37,8 @@ fn check_each(model: &Model, members: &Members) -> Result<(), Refusal>
     Ok(())
 }
 
-// Rules 30 and 31, of the image of the members.
+// Rules 30 and 31, of the image of the members. Its tables are not to lie on the stack beside those of the model's rules.
+#[inline(never)]
 fn check_30_and_31(model: &Model, image: &[u8]) -> Result<(), Refusal>
     ensures { instance_means result ≡ verdict 0 (rules.image_stages image.now) (rules.members_verdict (model_read model.now) (rules.members_in image.now)) }
 {
