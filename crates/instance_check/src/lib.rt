@@ -9,7 +9,9 @@ ghost use Rattle.csdl.specs.Conforms.{instance_answer, instance_then};
 ghost use Rattle.csdl.specs.Image.{model_in};
 ghost use Rattle.csdl.specs.Instance.{instance_in};
 ghost use Rattle.csdl.specs.Verdict.{instance_means};
+ghost use Rattle.instance_image.specs.Limits.{FewSlots};
 ghost use Rattle.instance_image.specs.Read.{instance_read};
+ghost use Rattle.model_image.specs.Limits.{FewProperties, FewChildren};
 ghost use Rattle.model_image.specs.Read.{model_read};
 ghost use Rattle.model_rules.specs.Stages.{ResultOf};
 
@@ -26,6 +28,7 @@ pub fn check_both<'a>(
 ) -> Result<(Model<'a>, Instance<'a>), Refusal>
     ensures value { ResultOf result (λ o. instance_then model.now instance.now o) }
     ensures read { IfOk result (λ p. (model_read p.0 ≡ model_in model.now) × (instance_read p.1 ≡ instance_in instance.now)) }
+    ensures few { IfOk result (λ p. FewProperties p.0.properties.now × FewChildren p.0.children.now × FewSlots p.1.slots.now) }
 {
     let model = check_rules(model)?;
     let instance = check_20_to_26(&model, instance)?;

@@ -5,7 +5,9 @@ ghost use Rattle.csdl.specs.Instance.{instance_places};
 ghost use Rattle.csdl.specs.Search.{found};
 ghost use Rattle.csdl.specs.Verdict.{verdict};
 ghost use Rattle.instance_check.specs.Stages.{lowest_instance_place, ItemSlots};
+ghost use Rattle.instance_image.specs.Limits.{FewSlots};
 ghost use Rattle.instance_image.specs.Read.{instance_read};
+ghost use Rattle.model_image.specs.Limits.{FewProperties};
 ghost use Rattle.model_image.specs.Read.{model_read};
 ghost use Rattle.model_rules.specs.Stages.{ResultOf};
 
@@ -23,6 +25,7 @@ use model_rules::{place_in, refused_at};
 // of rule 23, are not to lie on the stack beside those of rule 26.
 #[inline(never)]
 fn lowest_21(model: &Model, instance: &Instance) -> Option<u16>
+    requires { FewSlots instance.now.slots.now }
     ensures { result ≡ found (lowest_instance_place (model_read model.now) (instance_read instance.now) rules.rule21) }
 {
     let of_node = first_node_21(model, instance);
@@ -45,6 +48,7 @@ fn lowest_22(model: &Model, instance: &Instance) -> Option<u16>
 
 #[inline(never)]
 fn lowest_23(model: &Model, instance: &Instance) -> Option<u16>
+    requires { FewProperties model.now.properties.now }
     ensures { result ≡ found (lowest_instance_place (model_read model.now) (instance_read instance.now) rules.rule23) }
 {
     first_23(model, instance)
@@ -52,6 +56,7 @@ fn lowest_23(model: &Model, instance: &Instance) -> Option<u16>
 
 // Rule 24, of slots.
 fn lowest_24(model: &Model, instance: &Instance) -> Option<u16>
+    requires { FewSlots instance.now.slots.now }
     ensures { result ≡ found (lowest_instance_place (model_read model.now) (instance_read instance.now) rules.rule24) }
 {
     place_in(instance.slots_at(), first_24(model, instance))
@@ -59,7 +64,7 @@ fn lowest_24(model: &Model, instance: &Instance) -> Option<u16>
 
 // Rule 25, of items. `item_slots` has for each item the slot whose run has it.
 fn lowest_25(model: &Model, instance: &Instance, item_slots: &[u16]) -> Option<u16>
-    requires { ItemSlots (instance_read instance.now) item_slots.now }
+    requires { FewSlots instance.now.slots.now × ItemSlots (instance_read instance.now) item_slots.now }
     ensures { result ≡ found (lowest_instance_place (model_read model.now) (instance_read instance.now) rules.rule25) }
 {
     place_in(instance.items_at(), first_25(model, instance, item_slots))
@@ -67,7 +72,7 @@ fn lowest_25(model: &Model, instance: &Instance, item_slots: &[u16]) -> Option<u
 
 // Rule 26, of nodes.
 fn lowest_26(model: &Model, instance: &Instance, item_slots: &[u16]) -> Option<u16>
-    requires { ItemSlots (instance_read instance.now) item_slots.now }
+    requires { FewSlots instance.now.slots.now × ItemSlots (instance_read instance.now) item_slots.now }
     ensures { result ≡ found (lowest_instance_place (model_read model.now) (instance_read instance.now) rules.rule26) }
 {
     first_26(model, instance, item_slots)
@@ -76,6 +81,7 @@ fn lowest_26(model: &Model, instance: &Instance, item_slots: &[u16]) -> Option<u
 // Once rule 21 is unbroken, each item is in one run, and the slots of the items are found by going through each item once.
 #[tactic(auto, using(model_rules::proofs::Steps::steps), unfolding(crate::specs::Stages::lowest_instance_place, csdl::specs::Conforms::instance_stages))]
 pub(crate) fn check_21_to_26(model: &Model, instance: &Instance) -> Result<(), Refusal>
+    requires { FewProperties model.now.properties.now × FewSlots instance.now.slots.now }
     ensures { ResultOf result (λ o. verdict (instance_places (instance_read instance.now)) (rules.instance_stages (model_read model.now) (instance_read instance.now)) o) }
 {
     refused_at(21, lowest_21(model, instance))?;

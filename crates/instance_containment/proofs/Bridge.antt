@@ -17,6 +17,7 @@ use Rattle.csdl.proofs.Logic.{any_same, count_same, first-same, first-le}
 use Rattle.csdl.proofs.Reaching.{reaches_same}
 use Rattle.csdl.specs.Conforms.{slot_of_item}
 use Rattle.instance_image.specs.declared.instance.Instance as instances
+use Rattle.instance_image.specs.Limits.{FewSlots}
 use Rattle.instance_image.specs.Read.{instance_read}
 use lib.ListN.{set}
 use lib.Seq.{get_or-set_same, get_or-set_other}
@@ -110,10 +111,10 @@ fill_more f l i x h e all =
     (λ k lt. get_or-set_other l i k x 0 (λ q. let z : k ≡ i = q in omega arith) ∙ all k lt)
     (get_or-set_same l i x 0 h ∙ e)
 
--- An instance has no more slots and items than its limits.
-pub few_slots : (instance : instances.Instance) → (instance_read instance).slots ≤ 1024
+-- Few slots; an instance has no more items than its limit.
+pub few_slots : (instance : instances.Instance) → FewSlots instance.slots.now → (instance_read instance).slots ≤ 1024
 unfolding instance_read instance_of
-few_slots instance = omega (arith, instance.few_slots)
+few_slots instance few = omega (arith, few)
 
 pub few_items : (instance : instances.Instance) → (instance_read instance).items ≤ 2048
 unfolding instance_read instance_of

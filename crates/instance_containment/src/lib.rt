@@ -9,6 +9,7 @@ ghost use Rattle.csdl.specs.Search.{any_from, first_from, found};
 ghost use Rattle.csdl.specs.Climb as climb;
 ghost use Rattle.csdl.specs.Find as find;
 ghost use Rattle.csdl.specs.Conforms.{slot_of_item, integral_item, node26};
+ghost use Rattle.instance_image.specs.Limits.{FewSlots};
 ghost use Rattle.instance_image.specs.Read.{instance_read};
 ghost use Rattle.model_image.specs.Read.{model_read};
 ghost use Rattle.instance_runs.specs.Tables.{Tabulates, to_two};
@@ -164,7 +165,7 @@ fn first_within(item_slots: &[u16], slot_nodes: &[u16], to: &[u16], c: u16, n: u
 
 // The first node that breaks rule 26. `item_slots` has for each item the slot whose run has it.
 pub fn first_26(model: &Model, instance: &Instance, item_slots: &[u16]) -> Option<u16>
-    requires { Tabulates (λ k. slot_of_item (instance_read instance.now) k) 2048 item_slots.now }
+    requires { FewSlots instance.now.slots.now × Tabulates (λ k. slot_of_item (instance_read instance.now) k) 2048 item_slots.now }
     ensures value { result ≡ found (first_from (λ w. node26 (model_read model.now) (instance_read instance.now) w) 0 (instance_read instance.now).nodes) }
     ensures bound { IfSome result (λ w. w < 256) }
 {

@@ -1,6 +1,7 @@
 // Nodes, slots and items: one method for each field; a record past the end of its table reads as zeros.
 ghost use Rattle.std.specs.Prelude.{◌≡◌, ◌≤◌, ◌<◌};
 ghost use Rattle.csdl.specs.Kinds.{state_of};
+ghost use Rattle.instance_image.specs.Limits.{FewSlots};
 ghost use Rattle.instance_image.specs.Read.{instance_read};
 
 use crate::instance::Instance;
@@ -37,8 +38,9 @@ impl<'a> Instance<'a> {
         field16(self.nodes, 32 * (v as u32) + 27, 5)
     }
 
-    // How many records the table of slots has.
+    // How many records the table of slots has, which is asked to have no more than rule 20 allows.
     pub fn slot_count(&self) -> u16
+        requires { FewSlots self.now.slots.now }
         ensures { (result ≡ (instance_read self.now).slots) × (result ≤ 1024) }
     {
         (self.slots.len() / 5) as u16

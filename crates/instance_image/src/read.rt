@@ -1,6 +1,7 @@
 // The instance in an image that keeps rule 20, and the places of its records.
 ghost use Rattle.std.specs.Prelude.{◌≡◌, ◌≤◌};
 ghost use Rattle.csdl.specs.Instance as instances;
+ghost use Rattle.instance_image.specs.Limits.{FewSlots};
 ghost use Rattle.instance_image.specs.Sized.{Sized};
 ghost use Rattle.instance_image.specs.Read.{TablesOf, instance_read};
 
@@ -12,6 +13,7 @@ impl<'a> Instance<'a> {
         requires { Sized image.now }
         ensures value { instance_read result ≡ instances.instance_in image.now }
         ensures tables { TablesOf image.now result }
+        ensures few { FewSlots result.slots.now }
     {
         Instance {
             nodes: nodes_of(image),
@@ -28,6 +30,7 @@ impl<'a> Instance<'a> {
     }
 
     pub fn items_at(&self) -> u16
+        requires { FewSlots self.now.slots.now }
         ensures { (result ≡ instances.items_at (instance_read self.now)) × (result ≤ 1280) }
     {
         self.slots_at() + self.slot_count()

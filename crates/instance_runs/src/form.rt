@@ -3,6 +3,7 @@ ghost use Rattle.std.specs.Prelude.{◌≡◌, ◌<◌, IfSome};
 ghost use Rattle.csdl.specs.Search.{first_from, found};
 ghost use Rattle.csdl.specs.Form.{run4cd};
 ghost use Rattle.csdl.specs.Conforms.{node21a, slot21b, item21c, nodes_with, slots_with};
+ghost use Rattle.instance_image.specs.Limits.{FewSlots};
 ghost use Rattle.instance_image.specs.Read.{instance_read};
 ghost use Rattle.model_image.specs.Read.{model_read};
 ghost use Rattle.instance_runs.specs.Tables.{Tabulates, to_two};
@@ -25,6 +26,7 @@ fn bad_run(total: u16, run: Run) -> bool
 
 // 21a.
 fn node_21(model: &Model, instance: &Instance, v: u16) -> bool
+    requires { FewSlots instance.now.slots.now }
     ensures { result ≡ node21a (model_read model.now) (instance_read instance.now) v }
 {
     (instance.node_spare(v) != 0)
@@ -73,6 +75,7 @@ fn item_21(instance: &Instance, uses: &[u16], k: u16) -> bool
 
 // The first node that breaks rule 21.
 pub fn first_node_21(model: &Model, instance: &Instance) -> Option<u16>
+    requires { FewSlots instance.now.slots.now }
     ensures value { result ≡ found (first_from (λ v. node21a (model_read model.now) (instance_read instance.now) v) 0 (instance_read instance.now).nodes) }
     ensures bound { IfSome result (λ k. k < 256) }
 {
@@ -81,6 +84,7 @@ pub fn first_node_21(model: &Model, instance: &Instance) -> Option<u16>
 
 // The first slot that breaks rule 21.
 pub fn first_slot_21(model: &Model, instance: &Instance) -> Option<u16>
+    requires { FewSlots instance.now.slots.now }
     ensures value { result ≡ found (first_from (λ s. slot21b (model_read model.now) (instance_read instance.now) s) 0 (instance_read instance.now).slots) }
     ensures bound { IfSome result (λ k. k < 1024) }
 {
@@ -90,6 +94,7 @@ pub fn first_slot_21(model: &Model, instance: &Instance) -> Option<u16>
 
 // The first item that breaks rule 21.
 pub fn first_item_21(instance: &Instance) -> Option<u16>
+    requires { FewSlots instance.now.slots.now }
     ensures value { result ≡ found (first_from (λ k. item21c (instance_read instance.now) k) 0 (instance_read instance.now).items) }
     ensures bound { IfSome result (λ k. k < 2048) }
 {

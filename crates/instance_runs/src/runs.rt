@@ -4,6 +4,7 @@ ghost use Rattle.std.specs.Prelude.{◌≡◌, ℕ, ◌+◌, ◌<◌};
 ghost use Rattle.csdl.specs.Search.{tab};
 ghost use Rattle.csdl.specs.declared.Run as declared;
 ghost use Rattle.csdl.specs.Conforms.{nodes_with, slots_with, node_of_slot, slot_of_item};
+ghost use Rattle.instance_image.specs.Limits.{FewSlots};
 ghost use Rattle.instance_image.specs.Read.{instance_read};
 ghost use Rattle.instance_runs.specs.Tables.{Tabulates, left_by, to_two};
 
@@ -52,6 +53,7 @@ pub fn nodes_of_slots(instance: &Instance) -> [u16; 1024]
 
 // For each item the slot whose run has it.
 pub fn slots_of_items(instance: &Instance) -> [u16; 2048]
+    requires { FewSlots instance.now.slots.now }
     ensures { result ≡ tab (λ k. slot_of_item (instance_read instance.now) k) 0 2048 }
 {
     over_runs(
@@ -74,6 +76,7 @@ pub(crate) fn nodes_with(instance: &Instance) -> [u16; 1024]
 
 // In how many runs each item stands, at most 2.
 pub(crate) fn slots_with(instance: &Instance) -> [u16; 2048]
+    requires { FewSlots instance.now.slots.now }
     ensures { Tabulates (λ k. to_two (slots_with (instance_read instance.now) k)) 2048 result }
 {
     over_runs(

@@ -1,3 +1,4 @@
 pub mod Places
 pub mod Slotted
 pub mod States
+pub mod OfTables

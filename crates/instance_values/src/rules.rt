@@ -2,6 +2,7 @@
 ghost use Rattle.std.specs.Prelude.{◌≡◌, ◌<◌, IfSome};
 ghost use Rattle.csdl.specs.Search.{first_from, found};
 ghost use Rattle.csdl.specs.Conforms.{node22, slot24, slot_of_item, item_property, is_null, carries_node, item25of, item25};
+ghost use Rattle.instance_image.specs.Limits.{FewSlots};
 ghost use Rattle.instance_image.specs.Read.{instance_read};
 ghost use Rattle.model_image.specs.Read.{model_read};
 ghost use Rattle.instance_runs.specs.Tables.{Tabulates};
@@ -108,6 +109,7 @@ pub fn first_22(model: &Model, instance: &Instance) -> Option<u16>
 
 // The first slot that breaks rule 24.
 pub fn first_24(model: &Model, instance: &Instance) -> Option<u16>
+    requires { FewSlots instance.now.slots.now }
     ensures value { result ≡ found (first_from (λ s. slot24 (model_read model.now) (instance_read instance.now) s) 0 (instance_read instance.now).slots) }
     ensures bound { IfSome result (λ k. k < 1024) }
 {

@@ -4,6 +4,7 @@ ghost use Rattle.std.specs.Prelude.{◌≡◌, false, ℕ, ◌+◌, ◌≤◌, �
 ghost use Rattle.csdl.specs.Search.{first_from, found};
 ghost use Rattle.csdl.specs.Conforms.{node23};
 ghost use Rattle.instance_image.specs.Read.{instance_read};
+ghost use Rattle.model_image.specs.Limits.{FewProperties};
 ghost use Rattle.model_image.specs.Read.{model_read};
 ghost use Rattle.name_classes.specs.Classes.{name_of, Ranked};
 ghost use Rattle.type_names.specs.Wide.{wide};
@@ -40,7 +41,7 @@ fn unlike_run(instance: &Instance, rows: &[u64], from: usize, n: u16, run: Run) 
 
 // Rule 23 of the nodes one after the other.
 fn nodes_23(model: &Model, index: &[u16], instance: &Instance) -> Option<u16>
-    requires { Ranked (λ p. name_of model.now.properties.now model.now.names.now p) ((model_read model.now).properties) (get_or index.now 1536 0) index.now }
+    requires { FewProperties model.now.properties.now × Ranked (λ p. name_of model.now.properties.now model.now.names.now p) ((model_read model.now).properties) (get_or index.now 1536 0) index.now }
     ensures value { result ≡ found (first_from (λ v. node23 (model_read model.now) (instance_read instance.now) v) 0 (instance_read instance.now).nodes) }
     ensures bound { IfSome result (λ k. k < 256) }
 {
@@ -70,6 +71,7 @@ fn nodes_23(model: &Model, index: &[u16], instance: &Instance) -> Option<u16>
 
 // The first node that breaks rule 23.
 pub fn first_23(model: &Model, instance: &Instance) -> Option<u16>
+    requires { FewProperties model.now.properties.now }
     ensures value { result ≡ found (first_from (λ v. node23 (model_read model.now) (instance_read instance.now) v) 0 (instance_read instance.now).nodes) }
     ensures bound { IfSome result (λ k. k < 256) }
 {

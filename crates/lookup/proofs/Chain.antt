@@ -84,26 +84,30 @@ module _ (at : ℕ → ℕ) (n : ℕ) (old : List ℕ) where
     last = get_or-set_other e k 1536 v 0 (λ y. omega (arith, y, h)) ∙ f.last;
   }
 
-pub indexed : (properties names old index later : List ℕ) → property_count properties ≤ 512 → Ranked (λ p. name_of properties names p) (property_count properties) (get_or old 1536 0) old
-    → Filled (λ p. get_or old (512 + p) 0) (property_count properties) old 0 index later → Indexed properties names index
-indexed properties names old index later few r f = record {
-  ranked = ranked-kept (λ p. name_of properties names p) (property_count properties) old index few f.size f.last f.kept r;
-  next = λ p h. f.next p (omega arith) h
-      ∙ first-same _ _ (p + 1) (property_count properties - (p + 1)) (λ k a b. same_class (λ p. name_of properties names p) (property_count properties) (get_or old 1536 0) old r k p (omega (arith, b, h)) h);
+-- Of n properties, which are all.
+pub indexed : (properties names old index later : List ℕ) (n : ℕ) → n ≡ property_count properties → n ≤ 512 → Ranked (λ p. name_of properties names p) n (get_or old 1536 0) old
+    → Filled (λ p. get_or old (512 + p) 0) n old 0 index later → Indexed properties names index
+indexed properties names old index later n all few r f = record {
+  ranked = rw all at (ranked-kept (λ p. name_of properties names p) n old index few f.size f.last f.kept r);
+  next = rw all at next;
 }
+  where
+    next : (p : ℕ) → p < n → get_or index (1024 + p) 0 ≡ first_from (λ q. same (name_of properties names q) (name_of properties names p)) (p + 1) (n - (p + 1))
+    next p h = f.next p (omega arith) h
+        ∙ first-same _ _ (p + 1) (n - (p + 1)) (λ k a b. same_class (λ p. name_of properties names p) n (get_or old 1536 0) old r k p (omega (arith, b, h)) h)
 
 -- The entry of a property, as the code reads it.
-pub entry-small : (properties names old : List ℕ) → property_count properties ≤ 512 → Ranked (λ p. name_of properties names p) (property_count properties) (get_or old 1536 0) old
-    → (p : ℕ) → p < property_count properties → get_or old (512 + p) 0 < 513
-entry-small properties names old few r p h = omega (arith, small (λ p. name_of properties names p) (property_count properties) (get_or old 1536 0) old r p h)
+pub entry-small : (properties names old : List ℕ) (n : ℕ) → n ≤ 512 → Ranked (λ p. name_of properties names p) n (get_or old 1536 0) old
+    → (p : ℕ) → p < n → get_or old (512 + p) 0 < 513
+entry-small properties names old n few r p h = omega (arith, small (λ p. name_of properties names p) n (get_or old 1536 0) old r p h)
 
-pub entry_read : (properties names old index later : List ℕ) (p : ℕ) → property_count properties ≤ 512 → p < property_count properties
-    → Ranked (λ p. name_of properties names p) (property_count properties) (get_or old 1536 0) old
-    → Filled (λ p. get_or old (512 + p) 0) (property_count properties) old (p + 1) index later
+pub entry_read : (properties names old index later : List ℕ) (n p : ℕ) → n ≤ 512 → p < n
+    → Ranked (λ p. name_of properties names p) n (get_or old 1536 0) old
+    → Filled (λ p. get_or old (512 + p) 0) n old (p + 1) index later
     → (get_or index (512 + p) 0 ≡ get_or old (512 + p) 0) × (get_or index (512 + p) 0 < 513)
-entry_read properties names old index later p few h r f =
+entry_read properties names old index later n p few h r f =
     let e : get_or index (512 + p) 0 ≡ get_or old (512 + p) 0 = f.kept (512 + p) (omega (arith, h, few)) in
-    (e, rw e (entry-small properties names old few r p h))
+    (e, rw e (entry-small properties names old n few r p h))
 
 -- ---- following the chain of a name
 module _ (properties names name : List ℕ) where

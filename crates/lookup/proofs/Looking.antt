@@ -10,11 +10,10 @@ use Rattle.std.proofs.Common.{Option, Some, None, IfSome}
 use Rattle.packed.specs.Bytes.{same}
 use Rattle.csdl.specs.Search.{found}
 use Rattle.csdl.specs.Tables.{type_base, type_count, property_count, property_owner}
-use Rattle.csdl.specs.Model.{model_of}
 use Rattle.model_image.specs.Read.{model_read}
+use Rattle.model_image.proofs.Counting.{all_properties}
 use Rattle.name_classes.specs.Classes.{name_of}
 use Rattle.name_classes.proofs.Options.{number, found_none, found_some, found_low}
-use Rattle.name_classes.proofs.Ranks.{few_properties}
 use Rattle.type_hierarchy.specs.Near.{left_at, only}
 use Rattle.lookup.specs.declared.model.Lookup.{Lookup}
 use Rattle.lookup.specs.Index.{named_from}
@@ -114,10 +113,13 @@ module _ (lookup : Lookup) (name : List ℕ) where
           looked = near_farther _ _ (λ u. base u) all t p (number nearest) near at_here true left has_name refl g i;
         }
 
+-- All properties are counted.
+pub all_counted : (lookup : Lookup) → (model_read lookup.hierarchy.model).properties ≡ property_count lookup.hierarchy.model.properties.now
+all_counted lookup = all_properties lookup.hierarchy.model lookup.few_properties
+
 -- What is found of a name, and what it means, is a property.
 pub named_low : (lookup : Lookup) (name : List ℕ) (r : Option ℕ) → r ≡ found (named_from lookup.hierarchy.model.properties.now lookup.hierarchy.model.names.now name 0) → IfSome r (λ p. p < 512)
-unfolding model_read model_of
 named_low lookup name r e =
     let n : ℕ = property_count lookup.hierarchy.model.properties.now in
-    let few : n ≤ 512 = few_properties lookup.hierarchy.model in
+    let few : n ≤ 512 = omega (arith, lookup.few_properties) in
     rw e (found_low _ (n - 0) 512 (omega arith))

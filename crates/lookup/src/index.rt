@@ -2,6 +2,7 @@
 // in the order of the names. Entry 512 + p: the first property that has the name of p; entry 1024 + p: the next that has it; 0 for none, else
 // a property's number plus 1. Entry 1536: how many names there are. Entries from 1537 on: for each of 256 buckets some property, where a lookup
 // looks first; it may be any, since the name is compared.
+ghost use Rattle.model_image.specs.Limits.{FewProperties};
 ghost use Rattle.model_image.specs.Read.{model_read};
 ghost use Rattle.std.specs.Prelude.{◌≡◌, ℕ, ◌+◌, ◌<◌, eqb, get_or};
 ghost use Rattle.csdl.specs.Search.{first_from, found};
@@ -16,6 +17,7 @@ use type_hierarchy::hierarchy::Hierarchy;
 
 // The index, its chains filled from the last property to the first: `later` has the property of each name that was met last.
 fn index_of(model: &Model) -> [u16; 1793]
+    requires { FewProperties model.now.properties.now }
     ensures indexed { chains.Indexed model.now.properties.now model.now.names.now result }
     ensures result_value { get_or result 1536 0 ≡ name_count (λ p. name_of model.now.properties.now model.now.names.now p) ((model_read model.now).properties) }
     ensures by_index { (i : ℕ) → i < get_or result 1536 0 → get_or result i 0 + 1 ≡ first_from (λ p. eqb (name_rank (λ p. name_of model.now.properties.now model.now.names.now p) ((model_read model.now).properties) (name_of model.now.properties.now model.now.names.now p)) i) 0 ((model_read model.now).properties) }
@@ -34,6 +36,7 @@ fn index_of(model: &Model) -> [u16; 1793]
 
 impl<'a> Lookup<'a> {
     pub fn of(hierarchy: Hierarchy<'a>) -> Self
+        requires { FewProperties hierarchy.model.properties.now }
         ensures hierarchy_value { result.hierarchy ≡ hierarchy.entry }
         ensures count_value { get_or result.index 1536 0 ≡ name_count (λ p. name_of hierarchy.entry.model.properties.now hierarchy.entry.model.names.now p) ((model_read hierarchy.entry.model).properties) }
         ensures by_rank { (i : ℕ) → i < get_or result.index 1536 0 → get_or result.index i 0 + 1 ≡ first_from (λ p. eqb (name_rank (λ p. name_of hierarchy.entry.model.properties.now hierarchy.entry.model.names.now p) ((model_read hierarchy.entry.model).properties) (name_of hierarchy.entry.model.properties.now hierarchy.entry.model.names.now p)) i) 0 ((model_read hierarchy.entry.model).properties) }

@@ -4,6 +4,7 @@
 ghost use Rattle.std.specs.Prelude.{◌≡◌, [], ◌∷◌, length, IfOk, OnOk};
 ghost use Rattle.csdl.specs.Image.{model_in};
 ghost use Rattle.csdl.specs.Verdict as verdicts;
+ghost use Rattle.model_image.specs.Limits.{FewProperties, FewChildren};
 ghost use Rattle.model_image.specs.Read.{model_read};
 ghost use Rattle.model_image.specs.Sized.{Sized};
 ghost use Rattle.model_rules.specs.Stages.{ResultOf};
@@ -24,6 +25,7 @@ fn check_3_to_19<'a>(image: &'a [u8], codes: &mut [u32]) -> Result<Model<'a>, Re
     requires { Sized image.now × (length codes.old ≡ 1024) }
     ensures value { ResultOf result (λ o. verdicts.model_verdict (model_in image.now) o) }
     ensures model { IfOk result (λ m. model_read m ≡ model_in image.now) }
+    ensures few { IfOk result (λ m. FewProperties m.properties.now × FewChildren m.children.now) }
     ensures coded { OnOk result (Coded (model_in image.now) codes.new) }
 {
     let model = Model::read(image);
@@ -39,6 +41,7 @@ fn check_3_to_19<'a>(image: &'a [u8], codes: &mut [u32]) -> Result<Model<'a>, Re
 pub fn check_rules<'a>(image: &'a [u8]) -> Result<Model<'a>, Refusal>
     ensures value { ResultOf result (λ o. verdicts.model_then image.now o) }
     ensures model { IfOk result (λ m. model_read m ≡ model_in image.now) }
+    ensures few { IfOk result (λ m. FewProperties m.properties.now × FewChildren m.children.now) }
 {
     if bad_image(image) {
         return Err(Refusal { rule: 1, place: 0 });

@@ -3,7 +3,7 @@
 use mathlib.Core.Path.{◌≡◌}
 use mathlib.Core.List.{List}
 use mathlib.Core.Bool.{Bool, false, ◌||◌}
-use Prim.Native.Nat.{ℕ, ◌+◌, ◌*◌, ◌≤◌}
+use Prim.Native.Nat.{ℕ, ◌+◌, ◌*◌, ◌≤◌, min}
 use native.Mathlib.Omega.{arith}
 use lib.ListN.{length, length-take, length-drop}
 use lib.Dec.{eqb, ltb}
@@ -12,6 +12,9 @@ use Rattle.packed.specs.Bytes.{between}
 use Rattle.csdl.specs.Model.{model_of}
 use Rattle.csdl.specs.Image as images
 use Rattle.csdl.proofs.Logic.{or_no}
+use Rattle.std.proofs.Math.Nat.{min-eq_left}
+use Rattle.model_image.specs.Limits.{FewProperties, FewChildren}
+use Rattle.model_image.specs.Tables.{properties_in, children_in}
 use Rattle.model_image.specs.Sized.{Sized}
 use Rattle.csdl.specs.Image.{header, types_from, properties_from, keys_from, constraints_from, children_from, bindings_from, segments_from, names_from, image_end}
 
@@ -107,3 +110,17 @@ module _ (image : List ℕ) where
         segments = omega (arith, p.segments);
         names = p.names;
       }
+
+  -- No more properties and children than are counted.
+  pub all_counted : Sized image → record (images.model_in image) { properties = min (images.model_in image).properties 512; children = min (images.model_in image).children 64 } ≡ images.model_in image
+  all_counted l =
+      let n = counts l in
+      let p : min (images.model_in image).properties 512 ≡ (images.model_in image).properties = min-eq_left (omega (arith, n.properties, l.properties)) in
+      let h : min (images.model_in image).children 64 ≡ (images.model_in image).children = min-eq_left (omega (arith, n.children, l.children)) in
+      rw (p, h)
+
+  pub few_properties : Sized image → FewProperties (properties_in image)
+  few_properties l = omega (arith, (parts l).properties, l.properties)
+
+  pub few_children : Sized image → FewChildren (children_in image)
+  few_children l = omega (arith, (parts l).children, l.children)

@@ -7,11 +7,11 @@ use crate::model::Model;
 use packed::{field16, flag};
 
 impl<'a> Model<'a> {
-    // How many records the table has.
+    // How many records the table has, as far as rule 1 allows.
     pub fn child_count(&self) -> u16
         ensures { (result ≡ (model_read self.now).children) × (result ≤ 64) }
     {
-        (self.children.len() / 4) as u16
+        (self.children.len() / 4).min(64) as u16
     }
 
     pub fn child_singleton(&self, h: u16) -> bool

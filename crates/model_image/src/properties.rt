@@ -8,11 +8,11 @@ use csdl::Run;
 use packed::{field16, flag};
 
 impl<'a> Model<'a> {
-    // How many records the table has.
+    // How many records the table has, as far as rule 1 allows.
     pub fn property_count(&self) -> u16
         ensures { (result ≡ (model_read self.now).properties) × (result ≤ 512) }
     {
-        (self.properties.len() / 7) as u16
+        (self.properties.len() / 7).min(512) as u16
     }
 
     pub fn property_owner(&self, p: u16) -> u16

@@ -2,6 +2,7 @@
 ghost use Rattle.std.specs.Prelude.{◌≡◌};
 ghost use Rattle.csdl.specs.Image.{model_in};
 ghost use Rattle.model_image.specs.Read.{TablesOf, model_read};
+ghost use Rattle.model_image.specs.Limits.{FewProperties, FewChildren};
 ghost use Rattle.model_image.specs.Sized.{Sized};
 
 use crate::image::{counts_of, starts_of};
@@ -13,6 +14,7 @@ impl<'a> Model<'a> {
         requires { Sized image.now }
         ensures value { model_read result ≡ model_in image.now }
         ensures tables { TablesOf image.now result }
+        ensures few { FewProperties result.properties.now × FewChildren result.children.now }
     {
         let at = starts_of(counts_of(image));
         Model {

@@ -17,7 +17,9 @@ use Rattle.csdl.specs.Form.{rule4}
 use Rattle.csdl.specs.Paths.{rule14, key15, constraint16, property17, binding19}
 use Rattle.csdl.proofs.Logic.{first-same}
 use Rattle.lookup.specs.Index.{Indexed}
+use Rattle.model_image.specs.Limits.{FewProperties}
 use Rattle.model_image.specs.Read.{model_read}
+use Rattle.model_image.proofs.Counting.{all_properties}
 use Rattle.model_image.specs.declared.model.Model as tables
 use Rattle.name_classes.specs.Classes.{Ranked}
 use Rattle.path_resolution.specs.Coded.{Coded}
@@ -48,9 +50,9 @@ module _ (t : tables.Model) where
   few : (model_read t).properties ≤ 32768
   few = omega (arith, few_properties t)
 
-  by_name : (index : List ℕ) → Indexed t.properties.now t.names.now index → Ranked (λ p. property_text (model_read t) p) (model_read t).properties (get_or index 1536 0) index
+  by_name : (index : List ℕ) → FewProperties t.properties.now → Indexed t.properties.now t.names.now index → Ranked (λ p. property_text (model_read t) p) (model_read t).properties (get_or index 1536 0) index
   unfolding model_read model_of
-  by_name index i = i.ranked
+  by_name index all i = rw (all_properties t all) i.ranked
 
   module _ {codes : List ℕ} (coded : Coded (model_read t) codes) {x : Option ℕ} where
     pub constraints_16 : x ≡ found (first_from (λ k. constraint_coded (model_read t) codes k) 0 (model_read t).constraints)
@@ -65,6 +67,6 @@ module _ (t : tables.Model) where
       pub keys_15 : x ≡ found (first_from (λ k. key_coded (model_read t) codes k) 0 (model_read t).keys) → x ≡ found (first_from (λ k. key15 (model_read t) k) 0 (model_read t).keys)
       keys_15 = same_found _ _ (model_read t).keys (λ k h. key_coded_lem (model_read t) codes coded few short kept4 kept14 k h)
 
-      pub bindings_19 : (index : List ℕ) → Indexed t.properties.now t.names.now index
+      pub bindings_19 : (index : List ℕ) → FewProperties t.properties.now → Indexed t.properties.now t.names.now index
           → x ≡ found (first_from (λ k. binding_coded (model_read t) index codes k) 0 (model_read t).bindings) → x ≡ found (first_from (λ k. binding19 (model_read t) k) 0 (model_read t).bindings)
-      bindings_19 index i = same_found _ _ (model_read t).bindings (λ k h. binding_coded_lem (model_read t) codes coded (few_properties t) short _ index (by_name index i) kept4 kept14 k h)
+      bindings_19 index all i = same_found _ _ (model_read t).bindings (λ k h. binding_coded_lem (model_read t) codes coded (few_properties t) short _ index (by_name index all i) kept4 kept14 k h)

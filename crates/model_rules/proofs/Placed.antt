@@ -1,4 +1,4 @@
--- What was found in a table of a model, as the lowest of all places; how many records a model has at most. Assumes nothing.
+-- What was found in a table of a model, as the lowest of all places; how many records of a model are counted at most. Assumes nothing.
 use Prim.Native.Nat.{ℕ, zero, suc, ◌+◌, ◌≤◌, ◌<◌}
 use mathlib.Core.Path.{◌≡◌, refl, sym, ap, ◌∙◌}
 use mathlib.Core.Bool.{Bool, ◌||◌}
@@ -14,6 +14,7 @@ use Rattle.csdl.specs.Form.{rule4}
 use Rattle.csdl.specs.Paths.{rule13}
 use Rattle.csdl.proofs.Chains.{found_below}
 use Rattle.model_image.specs.Read.{model_read}
+use Rattle.model_image.proofs.Counting.{most_properties, most_children}
 use Rattle.model_image.specs.declared.model.Model as tables
 use Rattle.rules_segments.specs.Kept.{Resolvable}
 use Rattle.rules_segments.proofs.Resolving.{resolvable}
@@ -22,15 +23,14 @@ use Rattle.model_rules.proofs.Tables.{records, end_is, end_within, table_lowest,
 module _ (t : tables.Model) where
   pub few_places : places (model_read t) ≤ 2000
   unfolding model_read model_of
-  few_places = omega (arith, t.few_schemas, t.few_types, t.few_properties, t.few_keys, t.few_constraints, t.few_children, t.few_bindings, t.few_segments)
+  few_places = omega (arith, t.few_schemas, t.few_types, most_properties t, t.few_keys, t.few_constraints, most_children t, t.few_bindings, t.few_segments)
 
   few_types : (model_read t).types ≤ 32768
   unfolding model_read model_of
   few_types = omega (arith, t.few_types)
 
   pub few_properties : (model_read t).properties ≤ 512
-  unfolding model_read model_of
-  few_properties = omega (arith, t.few_properties)
+  few_properties = most_properties t
 
   pub few_segments : (model_read t).segments ≤ 1024
   unfolding model_read model_of

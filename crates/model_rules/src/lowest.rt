@@ -163,6 +163,6 @@ pub(crate) fn lowest_19(lookup: &Lookup, codes: &[u32]) -> Option<u16>
 {
     place_in(
         lookup.hierarchy.model.bindings_at(),
-        first_19(lookup, codes),
+        first_19(&lookup.hierarchy, &lookup.index, codes),
     )
 }

@@ -12,8 +12,8 @@ use Rattle.packed.specs.Bytes.{same}
 use Rattle.packed.proofs.Laws.{same_sound, same_complete}
 use Rattle.csdl.specs.Search.{first_from, one_if}
 use Rattle.csdl.proofs.Logic.{not_so, first-is, none_first, sum_same, below_or_not, equal_or_not}
-use Rattle.csdl.specs.Model.{model_of}
 use Rattle.model_image.specs.Read.{model_read}
+use Rattle.model_image.proofs.Counting.{most_properties}
 use Rattle.model_image.specs.declared.model.Model.{Model}
 use Rattle.name_classes.specs.Order.{before}
 use Rattle.name_classes.specs.Classes.{is_first, name_count, name_rank, Sorted, Stands, first_at, Ranked}
@@ -109,10 +109,9 @@ module _ (name : ℕ → List ℕ) (n firsts : ℕ) (index : List ℕ) (f : Rank
         found : Found name index firsts at x r → suc (get_or index at 0) ≡ first_from (λ q. same (name q) x) 0 n → (r ≡ 0 → ⊥) → r ≡ first_from (λ q. same (name q) x) 0 n
         found w y z = let g : r ≡ suc (get_or index at 0) = omega (arith, w.number, z) in g ∙ y
 
--- A model has no more properties than an index holds.
+-- No more properties of a model are counted than an index holds.
 pub few_properties : (model : Model) → (model_read model).properties ≤ 512
-unfolding model_read model_of
-few_properties model = omega (arith, model.few_properties)
+few_properties model = most_properties model
 
 -- The ranks in a list that has the same entries.
 pub ranked-kept : (name : ℕ → List ℕ) (n : ℕ) (old index : List ℕ) → n ≤ 512 → length index ≡ 1793 → get_or index 1536 0 ≡ get_or old 1536 0 → ((i : ℕ) → i < 1024 → get_or index i 0 ≡ get_or old i 0)

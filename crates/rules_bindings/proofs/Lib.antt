@@ -3,3 +3,4 @@ pub mod LastName
 pub mod PartnerPaths
 pub mod BindingPaths
 pub mod Split
+pub mod OfTables

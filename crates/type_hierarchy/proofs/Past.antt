@@ -53,5 +53,5 @@ module _ (m : Model) where
   unfolding model_read model_of find own declares
   find_past nm t h =
       sym (nearest-none _ (λ u. type_base m.types.now u) t 0
-      (sym (none_first _ 0 (length m.properties.now / 7) (λ p i l. rw (ne_eqb (field_of m.properties.now (56 * p) 6) t (λ e. omega (arith, field_lt m.properties.now (56 * p) 6))))))
+      (sym (none_first _ 0 (model_read m).properties (λ p i l. rw (ne_eqb (field_of m.properties.now (56 * p) 6) t (λ e. omega (arith, field_lt m.properties.now (56 * p) 6))))))
       (length m.types.now / 6) 0 refl (sym (base_past m.types.now t (omega (arith, few)))) refl)

@@ -13,7 +13,9 @@ use Rattle.csdl.proofs.Logic.{first-same, equal_or_not}
 use Rattle.csdl.proofs.Climbing.{nearest_test}
 use Rattle.csdl.specs.Tables.{type_base, type_count, property_count, property_owner}
 use Rattle.csdl.specs.Model.{model_of}
+use Rattle.model_image.specs.Limits.{FewProperties}
 use Rattle.model_image.specs.Read.{model_read}
+use Rattle.model_image.proofs.Counting.{all_properties}
 use Rattle.model_image.specs.declared.model.Model.{Model}
 use Rattle.csdl.specs.Find.{declares, own, find, is_name_of}
 use Rattle.type_hierarchy.specs.Near.{left_at, only}
@@ -70,18 +72,22 @@ unfolding nearest
 nearest-same f g next e zero t = refl
 nearest-same f g next e (suc l) t = rw (nearest_test next l t f, nearest_test next l t g, e t, nearest-same f g next e l (next t - 1))
 
-pub entry_lt : (properties names index : List ℕ) → Ranked (λ p. name_of properties names p) (property_count properties) (get_or index 1536 0) index → property_count properties ≤ 512
-    → (p : ℕ) → p < property_count properties → get_or index (512 + p) 0 < 513
-entry_lt properties names index w few p h = omega (arith, small (λ p. name_of properties names p) (property_count properties) (get_or index 1536 0) index w p h)
+pub entry_lt : (properties names index : List ℕ) (n : ℕ) → Ranked (λ p. name_of properties names p) n (get_or index 1536 0) index → n ≤ 512
+    → (p : ℕ) → p < n → get_or index (512 + p) 0 < 513
+entry_lt properties names index n w few p h = omega (arith, small (λ p. name_of properties names p) n (get_or index 1536 0) index w p h)
 
-module _ (model : Model) (index : List ℕ) (t : ℕ) (w : Ranked (λ p. name_of model.properties.now model.names.now p) (property_count model.properties.now) (get_or index 1536 0) index) where
-  pub name_meant : (p : ℕ) → p < property_count model.properties.now → (found : List ℕ) → property_count model.properties.now ≤ 512 → Meaning model.types.now model.properties.now index t found
+module _ (model : Model) (index : List ℕ) (t : ℕ) (few : FewProperties model.properties.now) (ranked : Ranked (λ p. name_of model.properties.now model.names.now p) (model_read model).properties (get_or index 1536 0) index) where
+  w : Ranked (λ p. name_of model.properties.now model.names.now p) (property_count model.properties.now) (get_or index 1536 0) index
+  w = rw (all_properties model few) at ranked
+
+  pub name_meant : (p : ℕ) → p < (model_read model).properties → (found : List ℕ) → Meaning model.types.now model.properties.now index t found
       → eqb (get_or found (get_or index (512 + p) 0) 0) (suc p) ≡ is_name_of (model_read model) t p
   unfolding model_read model_of is_name_of find own declares
-  name_meant p h found few m =
+  name_meant p below found m =
       let c = get_or index (512 + p) 0 in
+      let h : p < property_count model.properties.now = omega (arith, below, all_properties model few) in
       ap (λ (x : ℕ). eqb x (suc p))
-      (m.is c (entry_lt model.properties.now model.names.now index w few p h)
+      (rw (all_properties model few) (m.is c (entry_lt model.properties.now model.names.now index _ w (omega (arith, few)) p h)
       ∙ nearest-same _ _ (λ u. type_base model.types.now u)
       (λ u. first-same _ _ 0 (property_count model.properties.now) (λ q a k. ap (λ (b : Bool). eqb (property_owner model.properties.now q) u && b) (same_class (λ p. name_of model.properties.now model.names.now p) (property_count model.properties.now) (get_or index 1536 0) index w q p (omega (arith, k)) h)))
-      (type_count model.types.now) t)
+      (type_count model.types.now) t))

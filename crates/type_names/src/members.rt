@@ -1,4 +1,5 @@
 // The names of a type: of each name the nearest declaration. A name is known by the entry of its properties in the index.
+ghost use Rattle.model_image.specs.Limits.{FewProperties};
 ghost use Rattle.model_image.specs.Read.{model_read};
 ghost use Rattle.std.specs.Prelude.{◌≡◌, ◌&&◌, ℕ, ◌+◌, ◌<◌, ltb, length, get_or};
 ghost use Rattle.csdl.specs.Find.{is_name_of};
@@ -12,7 +13,7 @@ use type_hierarchy::nearness::nearness_of;
 
 // What each name means at t, at the place of the name's entry: 0 for none, else the property's number plus 1.
 fn meaning_of(model: &Model, index: &[u16], t: u16) -> [u16; 513]
-    requires { (t < 128) × (length index.now ≡ 1793) × ((p : ℕ) → p < (model_read model.now).properties → get_or index.now (512 + p) 0 < 513) }
+    requires { FewProperties model.now.properties.now × (t < 128) × (length index.now ≡ 1793) × ((p : ℕ) → p < (model_read model.now).properties → get_or index.now (512 + p) 0 < 513) }
     ensures { specs.Meaning model.now.types.now model.now.properties.now index.now t result }
 {
     let nearness = nearness_of(model, t);
@@ -31,7 +32,7 @@ fn meaning_of(model: &Model, index: &[u16], t: u16) -> [u16; 513]
 
 // The names of t.
 pub fn names_of(model: &Model, index: &[u16], t: u16) -> [u64; 8]
-    requires { (t < 128) × Ranked (λ p. name_of model.now.properties.now model.now.names.now p) ((model_read model.now).properties) (get_or index.now 1536 0) index.now }
+    requires { FewProperties model.now.properties.now × (t < 128) × Ranked (λ p. name_of model.now.properties.now model.now.names.now p) ((model_read model.now).properties) (get_or index.now 1536 0) index.now }
     ensures { (length result ≡ 8) × MembersWide result 0 (λ p. ltb p ((model_read model.now).properties) && is_name_of (model_read model.now) t p) }
 {
     let nearest = meaning_of(model, index, t);

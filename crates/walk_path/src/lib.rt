@@ -1,6 +1,7 @@
 // The path that a walk takes, and rules 27 to 29.
 #![tactic(auto)]
 
+ghost use Rattle.instance_image.specs.Limits.{FewSlots};
 ghost use Rattle.instance_image.specs.Read.{instance_read};
 ghost use Rattle.model_image.specs.Read.{model_read};
 ghost use Rattle.std.specs.Prelude.{◌≡◌, ◌<◌};
@@ -91,6 +92,7 @@ fn walk_28(model: &Model, instance: &Instance, t: u16, v: u32) -> bool
 // Rule 29.
 #[tactic(auto, unfolding(csdl::specs::Walk::walk29))]
 fn walk_29(instance: &Instance, results: &[u8]) -> bool
+    requires { FewSlots instance.now.slots.now }
     ensures { result ≡ walk29 (instance_read instance.now) results.now }
 {
     results.len()
@@ -105,6 +107,7 @@ pub fn refused_by(
     node: u32,
     results: &[u8],
 ) -> Option<u16>
+    requires { FewSlots instance.now.slots.now }
     ensures { result ≡ refusal (walk27 chosen) (walk28 (model_read model.now) (instance_read instance.now) (chosen_start (model_read model.now) chosen) node) (walk29 (instance_read instance.now) results.now) }
 {
     let no_path = walk_27(chosen);

@@ -37,3 +37,6 @@ returns-clause-value c =
     let third = rw (c.of-lookup.ensures.hierarchy_value, c.of.ensures) at c.in_ok-check_11_to_14.ensures.value in
     let fourth = rw (c.of-lookup.ensures.hierarchy_value, c.of.ensures) at c.in_ok-check_15_to_19.ensures in
     rw c.read-model.ensures.value at (goes_on _ c.in_ok-check_3_to_5.ensures c.in_ok-check_6_to_10.ensures third fourth)
+
+pub of-lookup-requires : goal.of-lookup-requires
+of-lookup-requires c = rw c.of.ensures c.read-model.ensures.few.0

@@ -12,6 +12,9 @@ read-instance-requires c =
     let kept : image20 c.args.image.now ≡ false = cc in
     sized _ kept
 
+pub check_21_to_26-requires : goal.check_21_to_26-requires
+check_21_to_26-requires c = (c.requires, c.read-instance.ensures.few)
+
 pub returns-in_err-check_21_to_26-clause-value : goal.returns-in_err-check_21_to_26-clause-value
 returns-in_err-check_21_to_26-clause-value c =
     let kept : image20 c.args.image.now ≡ false = cc in

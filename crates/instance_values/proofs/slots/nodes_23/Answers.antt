@@ -23,7 +23,7 @@ pub in_set-requires : goal.in_set-requires
 in_set-requires c = c.node_type-t.ensures.1
 
 pub names_of-row-requires : goal.names_of-row-requires
-names_of-row-requires c = (omega (arith, c.node_type-t.ensures.1), c.requires)
+names_of-row-requires c = (c.requires.0, omega (arith, c.node_type-t.ensures.1), c.requires.1)
 
 pub with_row-next-requires : goal.with_row-next-requires
 with_row-next-requires c = (c.loop-v.invariant.1.size, c.names_of-row.ensures.0, c.node_type-t.ensures.1)

@@ -2,8 +2,8 @@ use Prim.Native.Nat.{◌+◌, ◌-◌, ◌<◌}
 use lib.ListN.{get_or}
 use mathlib.Core.Path.{◌≡◌, refl}
 use native.Mathlib.Omega.{arith}
-use Rattle.csdl.specs.Model.{model_of}
 use Rattle.model_image.specs.Read.{model_read}
+use Rattle.model_image.proofs.Counting.{all_properties}
 use Rattle.name_classes.proofs.Ranks.{few_properties}
 use Rattle.lookup.proofs.Chain.{filled_start, filled_more, filled_past, entry_read, indexed, alike-start}
 use Rattle.lookup.proofs.index.index_of.Goals as goal
@@ -11,20 +11,18 @@ use Rattle.lookup.proofs.index.index_of.Goals.{In-loop-p}
 
 -- The entry of property p, which the loop reads, is that of the ranks.
 entry : (c : In-loop-p) → (get_or c.loop-p.index (512 + (c.loop-p.p - 1)) 0 ≡ get_or c.ranked-index.result (512 + (c.loop-p.p - 1)) 0) × (get_or c.loop-p.index (512 + (c.loop-p.p - 1)) 0 < 513)
-unfolding model_read model_of
 entry c =
     let e : c.loop-p.p - 1 + 1 ≡ c.loop-p.p = omega arith in
-    entry_read c.args.model.now.properties.now c.args.model.now.names.now c.ranked-index.result c.loop-p.index c.loop-p.later (c.loop-p.p - 1) (few_properties c.args.model.now) (omega arith)
+    entry_read c.args.model.now.properties.now c.args.model.now.names.now c.ranked-index.result c.loop-p.index c.loop-p.later (model_read c.args.model.now).properties (c.loop-p.p - 1) (few_properties c.args.model.now) (omega (arith, c.property_count-p.ensures.0))
     c.ranked-index.ensures.ranked (rw e c.loop-p.invariant)
 
 pub loop-p-init : goal.loop-p-init
 loop-p-init c = rw c.property_count-p.ensures.0 (filled_start _ _ _ c.ranked-index.ensures.ranked.size)
 
 pub bounds-later-first : goal.bounds-later-first
-unfolding model_read model_of
 bounds-later-first c =
     let e : c.loop-p.p - 1 + 1 ≡ c.loop-p.p = omega arith in
-    (entry_read c.args.model.now.properties.now c.args.model.now.names.now c.ranked-index.result c.loop-p.index c.loop-p.later (c.loop-p.p - 1) (few_properties c.args.model.now) (omega arith)
+    (entry_read c.args.model.now.properties.now c.args.model.now.names.now c.ranked-index.result c.loop-p.index c.loop-p.later (model_read c.args.model.now).properties (c.loop-p.p - 1) (few_properties c.args.model.now) (omega (arith, c.property_count-p.ensures.0))
     c.ranked-index.ensures.ranked (rw e c.loop-p.invariant)).1
 
 pub bounds-later-first-in-loop-p : goal.bounds-later-first-in-loop-p
@@ -38,14 +36,13 @@ loop-p-preserved c =
     filled_past _ _ _ _ _ _ _ _ few (omega arith) (filled_more _ _ _ _ _ _ _ few (omega arith) r.0 r.1 (rw e c.loop-p.invariant))
 
 pub returns-clause-indexed : goal.returns-clause-indexed
-unfolding model_read model_of
 returns-clause-indexed c =
     let e : c.loop-p.p ≡ 0 = omega arith in
-    indexed _ _ _ _ _ (few_properties c.args.model.now) c.ranked-index.ensures.ranked (rw e at c.loop-p.invariant)
+    indexed _ _ _ _ _ _ (all_properties c.args.model.now c.requires) (few_properties c.args.model.now) c.ranked-index.ensures.ranked (rw e at c.loop-p.invariant)
 
 pub returns-clause-by_index_2 : goal.returns-clause-by_index_2
-unfolding model_read model_of
 returns-clause-by_index_2 c =
     let e : c.loop-p.p ≡ 0 = omega arith in
-    let x = indexed _ _ _ _ _ (few_properties c.args.model.now) c.ranked-index.ensures.ranked (rw e at c.loop-p.invariant) in
-    λ p h. (alike-start _ _ _ x p h _ refl, x.next p h)
+    let all = all_properties c.args.model.now c.requires in
+    let x = indexed _ _ _ _ _ _ all (few_properties c.args.model.now) c.ranked-index.ensures.ranked (rw e at c.loop-p.invariant) in
+    λ p h. let low = rw all at h in (alike-start _ _ _ x p low _ refl, x.next p low)

@@ -9,7 +9,6 @@ use Rattle.csdl.specs.Tables.{type_base, type_count}
 use Rattle.model_image.specs.Read.{model_read}
 use Rattle.type_hierarchy.specs.Near.{left_at, only}
 use Rattle.type_hierarchy.proofs.Climbing.{nearness_at}
-use Rattle.name_classes.proofs.Ranks.{few_properties}
 use Rattle.lookup.proofs.Found.{means}
 use Rattle.lookup.proofs.Looking.{Looking, on-start, on-reach, on_less, looking_start, looking_nearer, looking_farther}
 use Rattle.lookup.proofs.names.find_among.Goals as goal
@@ -23,8 +22,7 @@ pub loop-at-init : goal.loop-at-init
 loop-at-init c = looking_start _ _ _ _ (on-start _ _ _ c.requires.1)
 
 pub next_alike-at-requires : goal.next_alike-at-requires
-unfolding model_read model_of
-next_alike-at-requires c = omega (arith, (on-reach _ _ _ _ (at_some (goal.at.next_alike-at-requires c).In-Some).on).below, few_properties c.args.lookup.now.hierarchy.model)
+next_alike-at-requires c = omega (arith, (on-reach _ _ _ _ (at_some (goal.at.next_alike-at-requires c).In-Some).on).below, c.args.lookup.now.few_properties)
 
 pub loop-at-smaller : goal.loop-at-smaller
 loop-at-smaller c = rw c.in-Some.is (on_less _ _ _ _ (at_some (goal.at.loop-at-smaller c).In-Some).on _ c.next_alike-at.ensures)

@@ -7,4 +7,4 @@ use Rattle.rules_bindings.proofs.bindings.binding_again.Goals as goal
 
 pub returns : goal.returns
 unfolding binding_again
-returns c = any_by_any _ (λ j. again_bound (model_read c.args.lookup.now.hierarchy.model) c.args.lookup.now.index c.args.codes.now j c.args.b) _ refl c.any.ensures.ran (λ x b q k. search (rules, tests))
+returns c = any_by_any _ (λ j. again_bound (model_read c.args.model.now) c.args.index.now c.args.codes.now j c.args.b) _ refl c.any.ensures.ran (λ x b q k. search (rules, tests))

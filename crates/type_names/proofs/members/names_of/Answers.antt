@@ -16,20 +16,20 @@ use Rattle.type_names.proofs.members.names_of.Goals.{then-nearest-index, else-ne
 
 pub meaning_of-nearest-requires : goal.meaning_of-nearest-requires
 unfolding model_read model_of
-meaning_of-nearest-requires c = (c.requires.0, c.requires.1.size, entry_lt _ _ _ c.requires.1 (few_properties c.args.model.now))
+meaning_of-nearest-requires c = (c.requires.0, c.requires.1, c.requires.2.size, entry_lt _ _ _ _ c.requires.2 (few_properties c.args.model.now))
 
 pub loop-p-init : goal.loop-p-init
 loop-p-init c = (search rules, λ q h. wide-none q h ∙ sym (below_none (λ k. is_name_of (model_read c.args.model.now) c.args.t k) 0 q refl))
 
 pub bounds-nearest-index : goal.bounds-nearest-index
 unfolding model_read model_of
-bounds-nearest-index c = omega (arith, entry_lt _ _ _ c.requires.1 (few_properties c.args.model.now) c.loop-p.p (omega arith), c.meaning_of-nearest.ensures.size)
+bounds-nearest-index c = omega (arith, entry_lt _ _ _ _ c.requires.2 (few_properties c.args.model.now) c.loop-p.p (omega arith), c.meaning_of-nearest.ensures.size)
 
 pub loop-p-preserved : goal.loop-p-preserved
 unfolding model_read model_of
 loop-p-preserved c =
     let test : ℕ → Bool = (λ q. is_name_of (model_read c.args.model.now) c.args.t q) in
-    let e = name_meant c.args.model.now c.args.index.now c.args.t c.requires.1 c.loop-p.p (omega arith) c.meaning_of-nearest.result (few_properties c.args.model.now) c.meaning_of-nearest.ensures in
+    let e = name_meant c.args.model.now c.args.index.now c.args.t c.requires.0 c.requires.2 c.loop-p.p (omega arith) c.meaning_of-nearest.result c.meaning_of-nearest.ensures in
     elim c.if-nearest-index.branch [
       | then-nearest-index w ↦ (
           let t : test c.loop-p.p ≡ true = sym e ∙ eq-eqb _ _ (w.if-nearest-index.true ∙ add-one c.loop-p.p) in
