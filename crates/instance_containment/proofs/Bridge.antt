@@ -111,7 +111,7 @@ fill_more f l i x h e all =
     (λ k lt. get_or-set_other l i k x 0 (λ q. let z : k ≡ i = q in omega arith) ∙ all k lt)
     (get_or-set_same l i x 0 h ∙ e)
 
--- Few slots; an instance has no more items than its limit.
+-- Slots, where they are few, and items are no more than their limits.
 pub few_slots : (instance : instances.Instance) → FewSlots instance.slots.now → (instance_read instance).slots ≤ 1024
 unfolding instance_read instance_of
 few_slots instance few = omega (arith, few)

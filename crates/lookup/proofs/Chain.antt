@@ -16,7 +16,7 @@ use Rattle.csdl.specs.Search.{first_from}
 use Rattle.csdl.specs.Tables.{property_count}
 use Rattle.csdl.proofs.Logic.{first_found, first-none, first-same, equal_or_not}
 use Rattle.name_classes.specs.Classes.{name_of, Ranked}
-use Rattle.name_classes.proofs.Ranks.{small, same_class, entry_first, ranked-kept}
+use Rattle.name_classes.proofs.Ranks.{entry_low, same_class, entry_first, ranked-kept}
 use Rattle.lookup.specs.Index.{named_from, Indexed}
 use Rattle.csdl.proofs.Loops.{one_more}
 
@@ -84,7 +84,7 @@ module _ (at : ℕ → ℕ) (n : ℕ) (old : List ℕ) where
     last = get_or-set_other e k 1536 v 0 (λ y. omega (arith, y, h)) ∙ f.last;
   }
 
--- Of n properties, which are all.
+-- The index of n properties, which are all.
 pub indexed : (properties names old index later : List ℕ) (n : ℕ) → n ≡ property_count properties → n ≤ 512 → Ranked (λ p. name_of properties names p) n (get_or old 1536 0) old
     → Filled (λ p. get_or old (512 + p) 0) n old 0 index later → Indexed properties names index
 indexed properties names old index later n all few r f = record {
@@ -97,17 +97,13 @@ indexed properties names old index later n all few r f = record {
         ∙ first-same _ _ (p + 1) (n - (p + 1)) (λ k a b. same_class (λ p. name_of properties names p) n (get_or old 1536 0) old r k p (omega (arith, b, h)) h)
 
 -- The entry of a property, as the code reads it.
-pub entry-small : (properties names old : List ℕ) (n : ℕ) → n ≤ 512 → Ranked (λ p. name_of properties names p) n (get_or old 1536 0) old
-    → (p : ℕ) → p < n → get_or old (512 + p) 0 < 513
-entry-small properties names old n few r p h = omega (arith, small (λ p. name_of properties names p) n (get_or old 1536 0) old r p h)
-
 pub entry_read : (properties names old index later : List ℕ) (n p : ℕ) → n ≤ 512 → p < n
     → Ranked (λ p. name_of properties names p) n (get_or old 1536 0) old
     → Filled (λ p. get_or old (512 + p) 0) n old (p + 1) index later
     → (get_or index (512 + p) 0 ≡ get_or old (512 + p) 0) × (get_or index (512 + p) 0 < 513)
 entry_read properties names old index later n p few h r f =
     let e : get_or index (512 + p) 0 ≡ get_or old (512 + p) 0 = f.kept (512 + p) (omega (arith, h, few)) in
-    (e, rw e (entry-small properties names old n few r p h))
+    (e, rw e (entry_low (λ p. name_of properties names p) n (get_or old 1536 0) old r few p h))
 
 -- ---- following the chain of a name
 module _ (properties names name : List ℕ) where

@@ -22,13 +22,13 @@ use Rattle.lookup.specs.declared.model.Lookup.{Lookup}
 use Rattle.lookup.specs.Index.{named_from}
 use Rattle.type_hierarchy.proofs.Near.{met_above}
 use Rattle.type_hierarchy.proofs.Past.{base_past}
-use Rattle.lookup.proofs.Looking.{all_counted, Looking, on-start, looking_start, looking_end, looking_nearer, looking_farther}
+use Rattle.lookup.proofs.Looking.{properties_counted, Looking, on-start, looking_start, looking_end, looking_nearer, looking_farther}
 
 module _ (lookup : Lookup) (name : List ℕ) (t : ℕ) where
   -- At the end of the chain the name means what is nearest.
   pub means : (nearest : Option ℕ) (near : ℕ) → Looking lookup name t None nearest near → nearest ≡ found (find (model_read lookup.hierarchy.model) name t)
   unfolding model_read model_of find own declares
-  means nearest near l = found_number nearest ∙ ap found (rw (all_counted lookup) (looking_end lookup name t nearest near l).is)
+  means nearest near l = found_number nearest ∙ ap found (rw (properties_counted lookup) (looking_end lookup name t nearest near l).is)
 
   -- No property has the name.
   pub means_none : None ≡ found (named_from lookup.hierarchy.model.properties.now lookup.hierarchy.model.names.now name 0) → None ≡ found (find (model_read lookup.hierarchy.model) name t)

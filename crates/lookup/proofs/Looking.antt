@@ -114,8 +114,8 @@ module _ (lookup : Lookup) (name : List ℕ) where
         }
 
 -- All properties are counted.
-pub all_counted : (lookup : Lookup) → (model_read lookup.hierarchy.model).properties ≡ property_count lookup.hierarchy.model.properties.now
-all_counted lookup = all_properties lookup.hierarchy.model lookup.few_properties
+pub properties_counted : (lookup : Lookup) → (model_read lookup.hierarchy.model).properties ≡ property_count lookup.hierarchy.model.properties.now
+properties_counted lookup = all_properties lookup.hierarchy.model lookup.few_properties
 
 -- What is found of a name, and what it means, is a property.
 pub named_low : (lookup : Lookup) (name : List ℕ) (r : Option ℕ) → r ≡ found (named_from lookup.hierarchy.model.properties.now lookup.hierarchy.model.names.now name 0) → IfSome r (λ p. p < 512)

@@ -19,7 +19,7 @@ use Rattle.csdl.proofs.Logic.{first-same}
 use Rattle.lookup.specs.Index.{Indexed}
 use Rattle.model_image.specs.Limits.{FewProperties}
 use Rattle.model_image.specs.Read.{model_read}
-use Rattle.model_image.proofs.Counting.{all_properties}
+use Rattle.model_image.proofs.Counting.{most_properties, all_properties}
 use Rattle.model_image.specs.declared.model.Model as tables
 use Rattle.name_classes.specs.Classes.{Ranked}
 use Rattle.path_resolution.specs.Coded.{Coded}
@@ -30,7 +30,6 @@ use Rattle.rules_bindings.specs.Partners.{partner_coded}
 use Rattle.rules_bindings.specs.Bindings.{binding_coded}
 use Rattle.rules_bindings.proofs.PartnerPaths.{partner_coded_lem}
 use Rattle.rules_bindings.proofs.BindingPaths.{binding_coded_lem}
-use Rattle.model_rules.proofs.Placed.{few_properties}
 
 -- The same tests below n find the same.
 same_found : {x : Option ℕ} (f g : ℕ → Bool) (n : ℕ) → ((k : ℕ) → k < n → f k ≡ g k) → x ≡ found (first_from f 0 n) → x ≡ found (first_from g 0 n)
@@ -48,11 +47,11 @@ module _ (t : tables.Model) where
   short Target r = field_lt t.bindings.now _ 4
 
   few : (model_read t).properties ≤ 32768
-  few = omega (arith, few_properties t)
+  few = omega (arith, most_properties t)
 
   by_name : (index : List ℕ) → FewProperties t.properties.now → Indexed t.properties.now t.names.now index → Ranked (λ p. property_text (model_read t) p) (model_read t).properties (get_or index 1536 0) index
   unfolding model_read model_of
-  by_name index all i = rw (all_properties t all) i.ranked
+  by_name index few_properties i = rw (all_properties t few_properties) i.ranked
 
   module _ {codes : List ℕ} (coded : Coded (model_read t) codes) {x : Option ℕ} where
     pub constraints_16 : x ≡ found (first_from (λ k. constraint_coded (model_read t) codes k) 0 (model_read t).constraints)
@@ -69,4 +68,4 @@ module _ (t : tables.Model) where
 
       pub bindings_19 : (index : List ℕ) → FewProperties t.properties.now → Indexed t.properties.now t.names.now index
           → x ≡ found (first_from (λ k. binding_coded (model_read t) index codes k) 0 (model_read t).bindings) → x ≡ found (first_from (λ k. binding19 (model_read t) k) 0 (model_read t).bindings)
-      bindings_19 index all i = same_found _ _ (model_read t).bindings (λ k h. binding_coded_lem (model_read t) codes coded (few_properties t) short _ index (by_name index all i) kept4 kept14 k h)
+      bindings_19 index few_properties i = same_found _ _ (model_read t).bindings (λ k h. binding_coded_lem (model_read t) codes coded (most_properties t) short _ index (by_name index few_properties i) kept4 kept14 k h)

@@ -29,16 +29,13 @@ module _ (t : tables.Model) where
   unfolding model_read model_of
   few_types = omega (arith, t.few_types)
 
-  pub few_properties : (model_read t).properties ≤ 512
-  few_properties = most_properties t
-
   pub few_segments : (model_read t).segments ≤ 1024
   unfolding model_read model_of
   few_segments = omega (arith, t.few_segments)
 
   -- What rule 14 rests on.
   pub can_resolve : Kept (model_read t) rule4 → Kept (model_read t) rule13 → Resolvable (model_read t)
-  can_resolve kept4 kept13 = resolvable (model_read t) kept4 kept13 few_types (omega (arith, few_properties))
+  can_resolve kept4 kept13 = resolvable (model_read t) kept4 kept13 few_types (omega (arith, most_properties t))
 
 pub moved : (first x : ℕ) → option_map (λ k. first + k) (found x) ≡ found (place_found first x)
 moved first zero = refl

@@ -12,9 +12,6 @@ use Rattle.packed.specs.Bytes.{same}
 use Rattle.packed.proofs.Laws.{same_sound, same_complete}
 use Rattle.csdl.specs.Search.{first_from, one_if}
 use Rattle.csdl.proofs.Logic.{not_so, first-is, none_first, sum_same, below_or_not, equal_or_not}
-use Rattle.model_image.specs.Read.{model_read}
-use Rattle.model_image.proofs.Counting.{most_properties}
-use Rattle.model_image.specs.declared.model.Model.{Model}
 use Rattle.name_classes.specs.Order.{before}
 use Rattle.name_classes.specs.Classes.{is_first, name_count, name_rank, Sorted, Stands, first_at, Ranked}
 use Rattle.name_classes.proofs.Before.{before_trans, before_self, apart}
@@ -32,6 +29,9 @@ one_place name order firsts sorted i j h k e = equal_or_not i j (λ z. z) (λ z.
 module _ (name : ℕ → List ℕ) (n firsts : ℕ) (index : List ℕ) (f : Ranked name n firsts index) where
   pub small : (p : ℕ) → p < n → get_or index (512 + p) 0 ≤ n
   small p h = let w = placed name n firsts index f p h in rw w.2 (omega (arith, f.below w.0 w.1))
+
+  pub entry_low : n ≤ 512 → (p : ℕ) → p < n → get_or index (512 + p) 0 < 513
+  entry_low few p h = omega (arith, small p h)
 
   -- The entries of the order, as a list of their own.
   pub whole : n ≤ 512 → firsts ≤ length index
@@ -108,10 +108,6 @@ module _ (name : ℕ → List ℕ) (n firsts : ℕ) (index : List ℕ) (f : Rank
       where
         found : Found name index firsts at x r → suc (get_or index at 0) ≡ first_from (λ q. same (name q) x) 0 n → (r ≡ 0 → ⊥) → r ≡ first_from (λ q. same (name q) x) 0 n
         found w y z = let g : r ≡ suc (get_or index at 0) = omega (arith, w.number, z) in g ∙ y
-
--- No more properties of a model are counted than an index holds.
-pub few_properties : (model : Model) → (model_read model).properties ≤ 512
-few_properties model = most_properties model
 
 -- The ranks in a list that has the same entries.
 pub ranked-kept : (name : ℕ → List ℕ) (n : ℕ) (old index : List ℕ) → n ≤ 512 → length index ≡ 1793 → get_or index 1536 0 ≡ get_or old 1536 0 → ((i : ℕ) → i < 1024 → get_or index i 0 ≡ get_or old i 0)

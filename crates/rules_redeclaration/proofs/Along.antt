@@ -15,11 +15,11 @@ use Rattle.csdl.specs.Model.{Model, model_of}
 use Rattle.csdl.specs.Properties.{same_name}
 use Rattle.csdl.proofs.Logic.{none_first, first_found, first-none, true-false, below_or_not}
 use Rattle.model_image.specs.Read.{model_read}
+use Rattle.model_image.proofs.Counting.{most_properties}
 use Rattle.name_classes.specs.Classes.{name_of}
-use Rattle.name_classes.proofs.Ranks.{few_properties}
 use Rattle.lookup.specs.declared.model.Lookup.{Lookup}
 use Rattle.lookup.proofs.Chain.{Reached, alike-start}
-use Rattle.lookup.proofs.Looking.{all_counted, On, on-start, on_ended, on-reach, on-next, on_less, remaining}
+use Rattle.lookup.proofs.Looking.{properties_counted, On, on-start, on_ended, on-reach, on-next, on_less, remaining}
 
 -- The first number that passes is the one that does where none below it does.
 first_at : (test : ℕ → Bool) (n q : ℕ) → q < n → test q ≡ true → ((j : ℕ) → j < q → test j ≡ false) → Some q ≡ found (first_from test 0 n)
@@ -40,7 +40,7 @@ module _ (l : Lookup) (p : ℕ) where
   name q = name_of l.hierarchy.model.properties.now l.hierarchy.model.names.now q
 
   pub low : p < m.properties → p < 512
-  low h = omega (arith, few_properties l.hierarchy.model)
+  low h = omega (arith, most_properties l.hierarchy.model)
 
   module _ (test : ℕ → Bool) (only : (q : ℕ) → same_name m p q ≡ false → test q ≡ false) where
     pub only_named : (q : ℕ) → same (name q) (name p) ≡ false → test q ≡ false
@@ -56,13 +56,13 @@ module _ (l : Lookup) (p : ℕ) where
     pub searched_start : p < m.properties → (at : Option ℕ) → at ≡ found (get_or l.index (512 + p) 0) → Searched at
     searched_start h at e = record {
       upto = 0;
-      on = on-start l (name p) at (e ∙ ap found (alike-start _ _ _ l.indexed p (rw (all_counted l) at h) _ refl));
+      on = on-start l (name p) at (e ∙ ap found (alike-start _ _ _ l.indexed p (rw (properties_counted l) at h) _ refl));
       none = λ q k. absurd (omega (arith, k));
     }
 
     pub searched_end : (at : Option ℕ) → Searched at → at ≡ None → None ≡ found (first_from test 0 m.properties)
     searched_end at s e =
-        ap found (sym (none_first test 0 m.properties (λ q a k. below_or_not q s.upto (λ b. s.none q b) (λ b. only_named q (on_ended l (name p) s.upto (rw e at s.on) q b (omega (arith, k, all_counted l)))))))
+        ap found (sym (none_first test 0 m.properties (λ q a k. below_or_not q s.upto (λ b. s.none q b) (λ b. only_named q (on_ended l (name p) s.upto (rw e at s.on) q b (omega (arith, k, properties_counted l)))))))
 
     module _ (at : Option ℕ) (s : Searched at) (q : ℕ) (e : at ≡ Some q) where
       here : On l (name p) (Some q) s.upto
@@ -72,7 +72,7 @@ module _ (l : Lookup) (p : ℕ) where
       reach = on-reach l (name p) s.upto q here
 
       pub at_below : q < m.properties
-      at_below = rw (all_counted l) reach.below
+      at_below = rw (properties_counted l) reach.below
 
       pub at_named : same_name m p q ≡ true
       unfolding model_read model_of same_name
@@ -86,7 +86,7 @@ module _ (l : Lookup) (p : ℕ) where
 
       module _ (next : Option ℕ) (f : next ≡ found (get_or l.index (1024 + q) 0)) where
         pub next_less : remaining m.properties next < remaining m.properties at
-        next_less = rw (e, all_counted l) (on_less l (name p) s.upto q here next f)
+        next_less = rw (e, properties_counted l) (on_less l (name p) s.upto q here next f)
 
         pub searched_next : test q ≡ false → Searched next
         searched_next g = record {

@@ -21,7 +21,7 @@ use Rattle.csdl.specs.Find.{declares, own, find, is_name_of}
 use Rattle.type_hierarchy.specs.Near.{left_at, only}
 use Rattle.type_hierarchy.proofs.Near.{Near, near_start, near_other, near_nearer, near_farther}
 use Rattle.name_classes.specs.Classes.{name_of, Ranked}
-use Rattle.name_classes.proofs.Ranks.{small, same_class}
+use Rattle.name_classes.proofs.Ranks.{entry_low, same_class}
 use Rattle.type_names.specs.Nearest.{Meaning}
 
 -- ---- one pass over the properties
@@ -72,10 +72,6 @@ unfolding nearest
 nearest-same f g next e zero t = refl
 nearest-same f g next e (suc l) t = rw (nearest_test next l t f, nearest_test next l t g, e t, nearest-same f g next e l (next t - 1))
 
-pub entry_lt : (properties names index : List ℕ) (n : ℕ) → Ranked (λ p. name_of properties names p) n (get_or index 1536 0) index → n ≤ 512
-    → (p : ℕ) → p < n → get_or index (512 + p) 0 < 513
-entry_lt properties names index n w few p h = omega (arith, small (λ p. name_of properties names p) n (get_or index 1536 0) index w p h)
-
 module _ (model : Model) (index : List ℕ) (t : ℕ) (few : FewProperties model.properties.now) (ranked : Ranked (λ p. name_of model.properties.now model.names.now p) (model_read model).properties (get_or index 1536 0) index) where
   w : Ranked (λ p. name_of model.properties.now model.names.now p) (property_count model.properties.now) (get_or index 1536 0) index
   w = rw (all_properties model few) at ranked
@@ -87,7 +83,7 @@ module _ (model : Model) (index : List ℕ) (t : ℕ) (few : FewProperties model
       let c = get_or index (512 + p) 0 in
       let h : p < property_count model.properties.now = omega (arith, below, all_properties model few) in
       ap (λ (x : ℕ). eqb x (suc p))
-      (rw (all_properties model few) (m.is c (entry_lt model.properties.now model.names.now index _ w (omega (arith, few)) p h)
+      (rw (all_properties model few) (m.is c (entry_low _ _ _ _ w (omega (arith, few)) p h)
       ∙ nearest-same _ _ (λ u. type_base model.types.now u)
       (λ u. first-same _ _ 0 (property_count model.properties.now) (λ q a k. ap (λ (b : Bool). eqb (property_owner model.properties.now q) u && b) (same_class (λ p. name_of model.properties.now model.names.now p) (property_count model.properties.now) (get_or index 1536 0) index w q p (omega (arith, k)) h)))
       (type_count model.types.now) t))

@@ -8,22 +8,23 @@ use borrow.Author.Tests.{eq-eqb, ne_eqb}
 use Rattle.csdl.specs.Find.{is_name_of}
 use Rattle.csdl.specs.Model.{model_of}
 use Rattle.model_image.specs.Read.{model_read}
-use Rattle.name_classes.proofs.Ranks.{few_properties}
+use Rattle.model_image.proofs.Counting.{most_properties}
+use Rattle.name_classes.proofs.Ranks.{entry_low}
 use Rattle.type_names.proofs.WideLaws.{wide-none, below_with, below_without, below_none}
-use Rattle.type_names.proofs.Meanings.{entry_lt, name_meant}
+use Rattle.type_names.proofs.Meanings.{name_meant}
 use Rattle.type_names.proofs.members.names_of.Goals as goal
 use Rattle.type_names.proofs.members.names_of.Goals.{then-nearest-index, else-nearest-index}
 
 pub meaning_of-nearest-requires : goal.meaning_of-nearest-requires
 unfolding model_read model_of
-meaning_of-nearest-requires c = (c.requires.0, c.requires.1, c.requires.2.size, entry_lt _ _ _ _ c.requires.2 (few_properties c.args.model.now))
+meaning_of-nearest-requires c = (c.requires.0, c.requires.1, c.requires.2.size, entry_low _ _ _ _ c.requires.2 (most_properties c.args.model.now))
 
 pub loop-p-init : goal.loop-p-init
 loop-p-init c = (search rules, λ q h. wide-none q h ∙ sym (below_none (λ k. is_name_of (model_read c.args.model.now) c.args.t k) 0 q refl))
 
 pub bounds-nearest-index : goal.bounds-nearest-index
 unfolding model_read model_of
-bounds-nearest-index c = omega (arith, entry_lt _ _ _ _ c.requires.2 (few_properties c.args.model.now) c.loop-p.p (omega arith), c.meaning_of-nearest.ensures.size)
+bounds-nearest-index c = omega (arith, entry_low _ _ _ _ c.requires.2 (most_properties c.args.model.now) c.loop-p.p (omega arith), c.meaning_of-nearest.ensures.size)
 
 pub loop-p-preserved : goal.loop-p-preserved
 unfolding model_read model_of
