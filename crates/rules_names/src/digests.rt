@@ -1,6 +1,6 @@
 // Digests of names, made once a record, so that names that differ are seldom compared.
-ghost use Rattle.std.specs.Prelude.{◌≡◌, ◌<◌};
-ghost use Rattle.rules_names.specs.Digests.{digest_of, fingerprint_of};
+ghost use Rattle.std.specs.Prelude.{◌≡◌, ◌<◌, ℕ, ◌≤◌};
+ghost use Rattle.rules_names.specs.Digests.{digest_of, fingerprint_of, Fingerprinted};
 
 use packed::word_at;
 
@@ -21,4 +21,28 @@ pub fn fingerprint_of(n: u16, s: &[u8]) -> u64
     ensures { result ≡ fingerprint_of n s.now }
 {
     u64::from(n) * 4294967296 + digest(s)
+}
+
+// The fingerprints of the first n records; 0 past them.
+pub fn fingerprints<const N: usize, F: Fn(u16) -> u64>(n: u16, of: F) -> [u64; N]
+    requires room { n ≤ N }
+    requires callable { (k : ℕ) → k < n → F.pre of k }
+    ensures { (fingerprint : ℕ → ℕ) → ((k x : ℕ) → k < n → F.post of k x → x ≡ fingerprint k) → Fingerprinted fingerprint n result }
+{
+    let mut fingerprints = [0u64; N];
+    for k in 0..n {
+        fingerprints[k as usize] = of(k);
+    }
+    fingerprints
+}
+
+#[cfg(test)]
+mod tests {
+    use super::*;
+
+    #[test]
+    fn one_fingerprint_a_record(rt: HostRuntime) {
+        let made: [u64; 4] = fingerprints(3, |k| fingerprint_of(k, b"Hall"));
+        assert_eq!(rt; made, [0x48616c6c, 0x1_48616c6c, 0x2_48616c6c, 0]);
+    }
 }
