@@ -1,5 +1,5 @@
 // Digests of names, made once a record, so that names that differ are seldom compared.
-ghost use Rattle.std.specs.Prelude.{◌≡◌, ◌<◌, ℕ, ◌≤◌};
+ghost use Rattle.std.specs.Prelude.{◌≡◌, ◌<◌, ℕ, ◌≤◌, get_or};
 ghost use Rattle.rules_names.specs.Digests.{digest_of, fingerprint_of, Fingerprinted};
 
 use packed::word_at;
@@ -27,7 +27,8 @@ pub fn fingerprint_of(n: u16, s: &[u8]) -> u64
 pub fn fingerprints<const N: usize, F: Fn(u16) -> u64>(n: u16, of: F) -> [u64; N]
     requires room { n ≤ N }
     requires callable { (k : ℕ) → k < n → F.pre of k }
-    ensures { (fingerprint : ℕ → ℕ) → ((k x : ℕ) → k < n → F.post of k x → x ≡ fingerprint k) → Fingerprinted fingerprint n result }
+    ensures value { (fingerprint : ℕ → ℕ) → ((k x : ℕ) → k < n → F.post of k x → x ≡ fingerprint k) → Fingerprinted fingerprint n result }
+    ensures past { (k : ℕ) → n ≤ k → k < N → get_or result k 0 ≡ 0 }
 {
     let mut fingerprints = [0u64; N];
     for k in 0..n {
